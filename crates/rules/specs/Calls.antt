@@ -1,0 +1,118 @@
+-- Sections 3 and 6: what the journal store answers to each call, and what an accepted call makes of it, on its meaning: low, floor, the rows of the
+-- base and the records of the journal, the newest first. Bad shape (1) is tested on the lent cells, before there is a meaning. Assumes nothing.
+use mathlib.Core.Bool.{Bool, cond, not}
+use mathlib.Core.List.{List, [], _∷_}
+use Prim.Native.Nat.{ℕ, _+_}
+use lib.Dec.{eqb, leb, ltb}
+use lib.ListN.{length}
+use Rattle.rules.specs.declared.Record.{Record}
+use Rattle.rules.specs.declared.Value.{Value}
+use Rattle.rules.specs.declared.Value.the-variants.{Absent, Present}
+use Rattle.rules.specs.declared.Effect.{Effect}
+use Rattle.rules.specs.declared.Effect.the-variants.{Assign, Add}
+use Rattle.rules.specs.Kinds.{begun, assigned, added, committed, aborted}
+use Rattle.rules.specs.Transactions.{runs, running}
+use Rattle.rules.specs.Times.{last, next}
+use Rattle.rules.specs.Values.{Row, valueAt, readIn}
+use Rattle.rules.specs.Lists.{listAt}
+use Rattle.rules.specs.Conflicts.{conflict}
+use Rattle.rules.specs.Checkpoints.{held, kept}
+use Rattle.rules.specs.Recovery.{mayWrite}
+
+-- what a journal store is taken to mean
+pub record Store : Type 0 where
+  pub low : ℕ
+  pub floor : ℕ
+  pub base : List Row
+  pub records : List Record
+
+-- low and last 0, floor 1, no rows and no records
+abbrev pub empty : Store
+empty = record { low = 0; floor = 1; base = []; records = [] }
+
+abbrev pub lastOf : Store → ℕ
+lastOf s = last (s .low) (s .records)
+
+abbrev pub nextOf : Store → ℕ
+nextOf s = next (s .floor) (s .records)
+
+-- the record of an update
+abbrev pub updated : ℕ → ℕ → Effect → Record
+updated n k (Assign v) = assigned n k v
+updated n k (Add d) = added n k d
+
+-- the calls that write a record
+pub data Call : Type 0 where
+  Begin : ℕ → Call
+  Update : ℕ → ℕ → Effect → Call
+  Abort : ℕ → Call
+  Commit : ℕ → ℕ → Call
+
+-- the record that an accepted call writes
+abbrev pub recordOf : Call → Store → Record
+recordOf (Begin t) s = begun (nextOf s) t
+recordOf (Update n k e) s = updated n k e
+recordOf (Abort n) s = aborted n
+recordOf (Commit n t) s = committed n t
+
+-- begin returns the transaction number, the others nothing
+abbrev pub gives : Call → Store → Value
+gives (Begin t) s = Present (nextOf s)
+gives (Update n k e) s = Absent
+gives (Abort n) s = Absent
+gives (Commit n t) s = Absent
+
+-- a time below low is too old (4), one above last lies in the future (5)
+abbrev pub timeRefusal : ℕ → Store → ℕ → ℕ
+timeRefusal t s others = cond (ltb t (s .low)) 4 (cond (ltb (lastOf s) t) 5 others)
+
+-- section 6 but for shape and room, in the order of its tests
+abbrev pub refusal : Call → Store → ℕ
+refusal (Begin t) s = timeRefusal t s (cond (leb 8 (length (running (s .records)))) 6 (cond (leb 4294967295 (nextOf s)) 7 0))
+refusal (Update n k e) s =
+    cond (not (runs n (s .records))) 2 (cond (eqb k 0) 3 (cond (not (mayWrite n k (s .records))) 8 0))
+refusal (Abort n) s = cond (not (runs n (s .records))) 2 0
+refusal (Commit n t) s =
+    cond (not (runs n (s .records))) 2 (cond (leb t (lastOf s)) 10 (cond (conflict n (s .records)) 11 0))
+
+abbrev pub readRefusal : ℕ → ℕ → Store → ℕ
+readRefusal n k s = cond (not (runs n (s .records))) 2 (cond (eqb k 0) 3 0)
+
+abbrev pub lookupRefusal : ℕ → ℕ → Store → ℕ
+lookupRefusal k t s = cond (eqb k 0) 3 (timeRefusal t s 0)
+
+abbrev pub listRefusal : ℕ → Store → ℕ
+listRefusal t s = timeRefusal t s 0
+
+abbrev pub checkpointRefusal : ℕ → Store → ℕ
+checkpointRefusal t s = timeRefusal t s (cond (held t (s .records)) 9 0)
+
+-- rule 3.11: how many free records a call needs
+abbrev pub need : Call → Store → ℕ
+need (Begin t) s = 2 + length (running (s .records))
+need (Update n k e) s = 1 + length (running (s .records))
+need (Abort n) s = 1
+need (Commit n t) s = 1
+
+-- no room (12) is the last test in every order
+abbrev pub withRoom : ℕ → ℕ → ℕ → ℕ
+withRoom refused wanted room = cond (eqb refused 0) (cond (leb wanted room) 0 12) refused
+
+-- the number that a call gets where so many records are lent
+abbrev pub answer : ℕ → Call → Store → ℕ
+answer room c s = withRoom (refusal c s) (length (s .records) + need c s) room
+
+-- the numbers that list and checkpoint get where so many rows are lent
+abbrev pub listAnswer : ℕ → ℕ → Store → ℕ
+listAnswer room t s = withRoom (listRefusal t s) (length (listAt (s .base) (s .records) t)) room
+
+abbrev pub checkpointAnswer : ℕ → ℕ → Store → ℕ
+checkpointAnswer room t s = withRoom (checkpointRefusal t s) (length (listAt (s .base) (s .records) t)) room
+
+-- one record more
+abbrev pub push : Record → Store → Store
+push r s = record { low = s .low; floor = s .floor; base = s .base; records = r ∷ s .records }
+
+-- rule 3.9: base becomes the list at T, low T, floor the next number
+abbrev pub checkpointed : ℕ → Store → Store
+checkpointed T s = record { low = T; floor = nextOf s; base = listAt (s .base) (s .records) T; records = kept T (s .records) }

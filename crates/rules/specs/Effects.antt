@@ -1,0 +1,38 @@
+-- Rule 3.1: what an effect makes of a value, and what the records of one transaction make of it. Assumes nothing.
+use mathlib.Core.Bool.{Bool, cond, _&&_}
+use mathlib.Core.List.{List, [], _∷_}
+use Prim.Native.Nat.{ℕ, _+_, _%_, _^_}
+use lib.Dec.{eqb}
+use Rattle.rules.specs.declared.Record.{Record}
+use Rattle.rules.specs.declared.Value.{Value}
+use Rattle.rules.specs.declared.Value.the-variants.{Absent, Present}
+use Rattle.rules.specs.declared.Effect.{Effect}
+use Rattle.rules.specs.declared.Effect.the-variants.{Assign, Add}
+use Rattle.rules.specs.Kinds.{isAssign, isUpdate}
+
+-- absent counting as 0
+abbrev pub orZero : Value → ℕ
+orZero Absent = 0
+orZero (Present v) = v
+
+-- assign v gives v; add d gives the old value plus d modulo 4,294,967,296
+abbrev pub applied : Effect → Value → Value
+applied (Assign v) old = Present v
+applied (Add d) old = Present ((orZero old + d) % 2 ^ 32)
+
+-- the effect of an update record: kind 2 assigns its value, kind 3 adds it
+abbrev pub effectOf : Record → Effect
+effectOf r = cond (isAssign r) (Assign (r .value)) (Add (r .value))
+
+-- a record of kind 2 or 3 that has the key
+abbrev pub writes : ℕ → Record → Bool
+writes k r = isUpdate r && eqb (r .key) k
+
+-- what a record makes of the value of a key
+abbrev pub effect : ℕ → Record → Value → Value
+effect k r old = cond (writes k r) (applied (effectOf r) old) old
+
+-- what records, the newest first, make of the value of a key, in their order
+abbrev pub effects : ℕ → List Record → Value → Value
+effects k [] old = old
+effects k (r ∷ older) old = effect k r (effects k older old)

@@ -1,0 +1,16 @@
+pub mod Kinds
+pub mod Effects
+pub mod Transactions
+pub mod Times
+pub mod Values
+pub mod Lists
+pub mod Conflicts
+pub mod Checkpoints
+pub mod Recovery
+pub mod Calls
+pub mod Bools
+pub mod Listing
+pub mod Columns
+pub mod Cuts
+pub mod Unique
+pub mod Examples

@@ -1,0 +1,79 @@
+// The kinds that everything speaks of: what a register holds, what an update does to it, and a record of the journal.
+// Section 3 of the rule book stands beside them in specs/, a file for each rule.
+ghost use mathlib.Core.Path.{_≡_};
+ghost use Rattle.rules.specs.Effects.{orZero, applied, effectOf};
+
+// What a register holds. 0 is an ordinary value and differs from absent.
+pub enum Value {
+    Absent,
+    Present(u32),
+}
+
+impl Value {
+    // The number that an add starts from: absent counts as 0.
+    pub fn or_zero(self) -> u32
+        ensures { λ r. ⌜ r ≡ orZero self ⌝ }
+    {
+        match self {
+            Value::Absent => 0,
+            Value::Present(v) => v,
+        }
+    }
+}
+
+// What an update does to a register.
+pub enum Effect {
+    Assign(u32),
+    Add(u32),
+}
+
+// Rule 3.1: what an effect makes of the value before it.
+pub fn apply(e: Effect, old: Value) -> Value
+    ensures { λ r. ⌜ r ≡ applied e old ⌝ }
+{
+    match e {
+        Effect::Assign(v) => Value::Present(v),
+        Effect::Add(d) => Value::Present(std::num::wrapping_add_u32(old.or_zero(), d)),
+    }
+}
+
+// A record of the journal: all its 24 bytes as numbers. `zeros` are the bytes 1 to 3, which an accepted call writes as 0.
+pub struct Record {
+    pub kind: u8,
+    pub zeros: u32,
+    pub transaction: u32,
+    pub key: u32,
+    pub value: u32,
+    pub time: u64,
+}
+
+impl Record {
+    // How many bytes a record takes.
+    pub const BYTES: usize = 24;
+    // The kinds of section 4.
+    pub const BEGIN: u8 = 1;
+
+    pub const ASSIGN: u8 = 2;
+
+    pub const ADD: u8 = 3;
+
+    pub const COMMIT: u8 = 4;
+
+    pub const ABORT: u8 = 5;
+
+    // The effect of an update record.
+    pub fn effect(self) -> Effect
+        ensures { λ r. ⌜ r ≡ effectOf self ⌝ }
+    {
+        if self.kind == Record::ASSIGN {
+            return Effect::Assign(self.value);
+        }
+        Effect::Add(self.value)
+    }
+}
+
+// What recovery's walk over a journal finds: every record is one that an accepted call would write at its place, or the place of the first that is not.
+pub enum Walked {
+    Whole,
+    BadAt(usize),
+}
