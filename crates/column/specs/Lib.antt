@@ -1,0 +1,4 @@
+pub mod Column
+pub mod Laws
+pub mod Unique
+pub mod Examples
