@@ -1,0 +1,3 @@
+pub mod Reply
+pub mod Laws
+pub mod Unique

@@ -1,0 +1,21 @@
+-- Walks over the journal. A loop that goes up from 0 has the invariant that its state is a reading of the first i records;
+-- `turn` is one turn of it, and `finish` its end. Assumes nothing.
+use mathlib.Core.Path.{_≡_, ap, _∙_}
+use mathlib.Core.List.{List, _∷_}
+use Prim.Native.Nat.{ℕ, _+_, _*_}
+use native.Mathlib.Numerals.{add-one}
+use Rattle.rules.specs.declared.Record.{Record}
+use Rattle.rules.specs.Kinds.{recordBytes}
+use Rattle.record.specs.Bytes.{recordAt, newest}
+
+-- a turn: where a step makes of a reading the reading of one record more, the step with record i makes of the reading of i records that of i + 1
+pub turn : {A : Type 0} (reading : List Record → A) (step : Record → A → A)
+    → ((r : Record) (rs : List Record) → step r (reading rs) ≡ reading (r ∷ rs))
+    → (b : List ℕ) (i : ℕ) (r : Record) (old new : A) → new ≡ step r old → r ≡ recordAt b (i * recordBytes) → old ≡ reading (newest i b)
+    → new ≡ reading (newest (i + 1) b)
+turn reading step law b i r old new e f g = rw add-one (e ∙ rw (f, g) (law (recordAt b (i * recordBytes)) (newest i b)))
+
+-- the end: a walk that has come to n has the reading of n records
+pub finish : {A : Type 0} (reading : List Record → A) (b : List ℕ) (i n : ℕ) (x : A) → x ≡ reading (newest i b) → i ≡ n
+    → x ≡ reading (newest n b)
+finish reading b i n x h e = h ∙ ap (λ (m : ℕ). reading (newest m b)) e
