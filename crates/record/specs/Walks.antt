@@ -19,3 +19,12 @@ turn reading step law b i r old new e f g = rw add-one (e ∙ rw (f, g) (law (re
 pub finish : {A : Type 0} (reading : List Record → A) (b : List ℕ) (i n : ℕ) (x : A) → x ≡ reading (newest i b) → i ≡ n
     → x ≡ reading (newest n b)
 finish reading b i n x h e = h ∙ ap (λ (m : ℕ). reading (newest m b)) e
+
+-- the same of any statement: what holds of record i and those before it holds of the first i + 1
+pub onward : (P : List Record → Type 0) (b : List ℕ) (i : ℕ) (r : Record) → r ≡ recordAt b (i * recordBytes) → P (r ∷ newest i b)
+    → P (newest (i + 1) b)
+onward P b i r e h = rw add-one (rw e at h)
+
+-- and its end
+pub arrived : (P : List Record → Type 0) (b : List ℕ) (i n : ℕ) → P (newest i b) → i ≡ n → P (newest n b)
+arrived P b i n h e = rw e at h

@@ -9,6 +9,7 @@ pub mod Checkpoints
 pub mod Recovery
 pub mod Calls
 pub mod Bools
+pub mod Running
 pub mod Listing
 pub mod Columns
 pub mod Cuts

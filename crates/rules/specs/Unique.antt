@@ -1,9 +1,11 @@
 -- No second answer satisfies the contract of a public function of this crate. Assumes nothing.
 use mathlib.Core.Path.{_≡_, sym, _∙_}
+use mathlib.Core.Bool.{Bool}
 use Prim.Native.Nat.{ℕ}
 use Rattle.rules.specs.declared.Record.{Record}
 use Rattle.rules.specs.declared.Value.{Value}
 use Rattle.rules.specs.declared.Effect.{Effect}
+use Rattle.rules.specs.Kinds.{isUpdate}
 use Rattle.rules.specs.Effects.{orZero, applied, effectOf}
 
 pub or-zero-unique : (v : Value) (a b : ℕ) → a ≡ orZero v → b ≡ orZero v → a ≡ b
@@ -14,3 +16,6 @@ apply-unique e old a b p q = p ∙ sym q
 
 pub effect-unique : (r : Record) (a b : Effect) → a ≡ effectOf r → b ≡ effectOf r → a ≡ b
 effect-unique r a b p q = p ∙ sym q
+
+pub is-update-unique : (r : Record) (a b : Bool) → a ≡ isUpdate r → b ≡ isUpdate r → a ≡ b
+is-update-unique r a b p q = p ∙ sym q

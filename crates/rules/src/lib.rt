@@ -1,6 +1,7 @@
 // The kinds that everything speaks of: what a register holds, what an update does to it, and a record of the journal.
 // Section 3 of the rule book stands beside them in specs/, a file for each rule.
 ghost use mathlib.Core.Path.{_≡_};
+ghost use Rattle.rules.specs.Kinds.{isUpdate};
 ghost use Rattle.rules.specs.Effects.{orZero, applied, effectOf};
 
 // What a register holds. 0 is an ordinary value and differs from absent.
@@ -60,6 +61,16 @@ impl Record {
     pub const COMMIT: u8 = 4;
 
     pub const ABORT: u8 = 5;
+
+    // Whether it is an update: an assign or an add.
+    pub fn is_update(self) -> bool
+        ensures { λ r. ⌜ r ≡ isUpdate self ⌝ }
+    {
+        if self.kind == Record::ASSIGN {
+            return true;
+        }
+        self.kind == Record::ADD
+    }
 
     // The effect of an update record.
     pub fn effect(self) -> Effect

@@ -1,0 +1,47 @@
+-- `journal::conflicts::is_new_key` meets its contract: the transaction, an update, and not in the column. Assumes nothing.
+use mathlib.Core.Path.{_≡_, sym, ap, _∙_}
+use mathlib.Core.Bool.{Bool, true, false, not}
+use mathlib.Core.List.{List}
+use Prim.Native.Nat.{ℕ}
+use borrow.Author.Tests.{eq-eqb, ne-eqb}
+use lib.ListN.{take}
+use Rattle.rules.specs.declared.Record.{Record}
+use Rattle.rules.specs.Kinds.{isUpdate}
+use Rattle.rules.specs.Lists.{among}
+use Rattle.journal.specs.Gathered.{newKey}
+use borrow.Author.Needs.{needs}
+use denote.Ref.{now}
+use Rattle.journal.proofs.conflicts.is_new_key.Statement.{statement}
+use Rattle.journal.proofs.conflicts.is_new_key.Tie as tie
+
+module _ (n : ℕ) (keys : List ℕ) (r : Record) (own : r .transaction ≡ n) (u : Bool) (d : u ≡ isUpdate r) where
+  no-update : u ≡ false → false ≡ newKey n keys r
+  no-update e = rw (eq-eqb _ _ own, sym d ∙ e)
+
+  update : u ≡ true → (b : Bool) → b ≡ among (r .key) keys → not b ≡ newKey n keys r
+  update e b f = rw (eq-eqb _ _ own, sym d ∙ e) (ap not f)
+
+returns : tie.Need-returns
+returns c = simp (ne-eqb _ _ (c .if1 .taken))
+
+is-update-requires : tie.Need-is-update-requires
+is-update-requires c κs = search needs
+
+is-in-requires : tie.Need-is-in-requires
+is-in-requires c κs = search needs
+
+returns-2 : tie.Need-returns-2
+returns-2 c =
+    let u = c .before .before in
+    let a = u .before .before .before .before .args in
+    update (a .n) (take (a .count) (now (a .keys))) (a .r) (u .before .if1 .left) _ (u .is-update .ensures) (c .before .if2 .taken) _ (c .is-in .ensures)
+
+returns-3 : tie.Need-returns-3
+returns-3 c =
+    let u = c .before in
+    let a = u .before .before .before .before .args in
+    no-update (a .n) (take (a .count) (now (a .keys))) (a .r) (u .before .if1 .left) _ (u .is-update .ensures) (c .if2 .left)
+
+pub is-new-key-spec : {M : Type 1} → statement M
+is-new-key-spec =
+    tie.close (tie.spec returns is-update-requires is-in-requires returns-2 returns-3)

@@ -1,0 +1,89 @@
+-- `journal::conflicts::keys_written` meets its contract. The loop's invariant: the column holds the distinct keys of the records passed.
+-- Assumes nothing.
+use mathlib.Core.Path.{_≡_, refl, sym, _∙_}
+use mathlib.Core.Logic.{⊎-elim}
+use Prim.Native.Nat.{ℕ, _≤_, _-_, _+_}
+use lib.ListN.{length, length-set}
+use Rattle.rules.specs.Transactions.{of}
+use Rattle.record.specs.Bytes.{newest}
+use Rattle.record.specs.Walks.{onward, arrived}
+use Rattle.journal.specs.Gathered.{KeysOf, key-more, key-same}
+use borrow.Author.Needs.{needs}
+use native.Mathlib.Omega.{arith}
+use denote.Ref.{now}
+use Rattle.journal.proofs.conflicts.keys_written.Statement.{statement}
+use Rattle.journal.proofs.conflicts.keys_written.Tie as tie
+
+abbrev Inv-loop : tie.InvT-loop
+Inv-loop journal used n keys₀ count₀ i₀ keys count i = (i ≤ used) × (length keys ≡ length keys₀) × KeysOf (of n (newest i journal)) i count keys
+
+abbrev μ-loop : tie.MeasureT-loop
+μ-loop journal used n keys₀ count₀ i₀ keys count i = used - i
+
+loop-holds : tie.Need-loop-holds Inv-loop μ-loop
+loop-holds c = (omega arith, refl, record { few = omega arith; many = refl; held = λ k. refl })
+
+read-requires : tie.Need-read-requires Inv-loop μ-loop
+read-requires c κs = search needs
+
+is-new-key-requires : tie.Need-is-new-key-requires Inv-loop μ-loop
+is-new-key-requires c κs = search needs
+
+mul-keys : tie.Need-mul-keys Inv-loop μ-loop
+mul-keys c = search needs
+
+slice-write-keys : tie.Need-slice-write-keys Inv-loop μ-loop
+slice-write-keys c = search needs
+
+add-count : tie.Need-add-count Inv-loop μ-loop
+add-count c = search needs
+
+add-i : tie.Need-add-i Inv-loop μ-loop
+add-i c = search needs
+
+loop-less : tie.Need-loop-less Inv-loop μ-loop
+loop-less c = search needs
+
+loop-again : tie.Need-loop-again Inv-loop μ-loop
+loop-again c =
+    let t = c .before in
+    let l = t .before .before .before .before .loop in
+    let a = t .before .before .before .before .before .before .before .args in
+    let r = t .before .before .read in
+    let j = now (a .journal) in (
+      omega arith,
+      ⊎-elim (λ w. rw (w .1) (simp length-set (l .inv .1))) (λ w. rw (w .1) (l .inv .1)) (c .if1 .came),
+      onward (λ rs. KeysOf (of (a .n) rs) (l .i + 1) (c .if1 .count) (c .if1 .keys)) j (l .i) _ (r .ensures)
+          (⊎-elim
+          (λ w. key-more (a .n) (a .used) (l .i) (l .count) _ (newest (l .i) j) _ (l .inv .2) _ _ (omega arith) (sym (t .is-new-key .ensures) ∙ w .0 .taken) (w .2) (w .1))
+          (λ w. key-same (a .n) (a .used) (l .i) (l .count) _ (newest (l .i) j) _ (l .inv .2) _ _ (sym (t .is-new-key .ensures) ∙ w .0 .left) (w .2) (w .1))
+          (c .if1 .came)),
+    )
+
+same-length : tie.Need-same-length Inv-loop μ-loop
+same-length c = search needs
+
+returns : tie.Need-returns Inv-loop μ-loop
+returns c =
+    let l = c .before .loop in
+    let a = c .before .before .before .before .args in
+    let e : l .i ≡ a .used = omega arith in
+    rw e at (l .inv .2)
+
+pub keys-written-spec : {M : Type 1} → statement M
+keys-written-spec =
+    tie.close
+    (tie.spec
+    Inv-loop
+    μ-loop
+    loop-holds
+    read-requires
+    is-new-key-requires
+    mul-keys
+    slice-write-keys
+    add-count
+    add-i
+    loop-less
+    loop-again
+    same-length
+    returns)

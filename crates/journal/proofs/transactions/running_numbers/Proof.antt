@@ -1,0 +1,92 @@
+-- `journal::transactions::running_numbers` meets its contract. The loop's invariant: the column holds the running transactions that the records
+-- passed begin. Assumes nothing.
+use mathlib.Core.Path.{_≡_, refl, sym, _∙_}
+use mathlib.Core.Logic.{⊎-elim}
+use Prim.Native.Nat.{_≤_, _-_, _+_}
+use lib.ListN.{length, length-set}
+use Rattle.record.specs.Bytes.{newest}
+use Rattle.record.specs.Walks.{onward}
+use Rattle.journal.specs.CompactColumns.{Opened, open-more, open-same, opened-all}
+use borrow.Author.Needs.{needs}
+use native.Mathlib.Omega.{arith}
+use denote.Ref.{now}
+use Rattle.journal.proofs.transactions.running_numbers.Statement.{statement}
+use Rattle.journal.proofs.transactions.running_numbers.Tie as tie
+
+abbrev Inv-loop : tie.InvT-loop
+Inv-loop journal used numbers₀ count₀ i₀ numbers count i = (i ≤ used) × (length numbers ≡ length numbers₀) × Opened (newest used journal) (newest i journal) i count numbers
+
+abbrev μ-loop : tie.MeasureT-loop
+μ-loop journal used numbers₀ count₀ i₀ numbers count i = used - i
+
+loop-holds : tie.Need-loop-holds Inv-loop μ-loop
+loop-holds c = (omega arith, refl, record { few = omega arith; many = refl; held = λ m. refl })
+
+read-requires : tie.Need-read-requires Inv-loop μ-loop
+read-requires c κs = search needs
+
+opens-at-requires : tie.Need-opens-at-requires Inv-loop μ-loop
+opens-at-requires c κs = search needs
+
+mul-numbers : tie.Need-mul-numbers Inv-loop μ-loop
+mul-numbers c = search needs
+
+slice-write-numbers : tie.Need-slice-write-numbers Inv-loop μ-loop
+slice-write-numbers c = search needs
+
+add-count : tie.Need-add-count Inv-loop μ-loop
+add-count c = search needs
+
+add-i : tie.Need-add-i Inv-loop μ-loop
+add-i c = search needs
+
+loop-less : tie.Need-loop-less Inv-loop μ-loop
+loop-less c = search needs
+
+loop-again : tie.Need-loop-again Inv-loop μ-loop
+loop-again c =
+    let t = c .before in
+    let l = t .before .before .before .loop in
+    let a = t .before .before .before .before .before .before .args in
+    let r = t .before .read in
+    let j = now (a .journal) in (
+      omega arith,
+      ⊎-elim (λ w. rw (w .1) (simp length-set (l .inv .1))) (λ w. rw (w .1) (l .inv .1)) (c .if1 .came),
+      onward (λ rs. Opened (newest (a .used) j) rs (l .i + 1) (c .if1 .count) (c .if1 .numbers)) j (l .i) _ (r .ensures)
+          (⊎-elim
+          (λ w.
+          open-more (newest (a .used) j) (l .i) (l .count) (newest (l .i) j) _ (l .inv .2) (r .result) _ _ (omega arith)
+          (sym (t .opens-at .ensures) ∙ w .0 .taken) (w .2) (w .1))
+          (λ w.
+          open-same (newest (a .used) j) (l .i) (l .count) (newest (l .i) j) _ (l .inv .2) (r .result) _ _
+          (sym (t .opens-at .ensures) ∙ w .0 .left) (w .2) (w .1))
+          (c .if1 .came)),
+    )
+
+same-length : tie.Need-same-length Inv-loop μ-loop
+same-length c = search needs
+
+returns : tie.Need-returns Inv-loop μ-loop
+returns c =
+    let l = c .before .loop in
+    let a = c .before .before .before .before .args in
+    let e : l .i ≡ a .used = omega arith in
+    opened-all (newest (a .used) (now (a .journal))) (a .used) _ _ (rw e at (l .inv .2))
+
+pub running-numbers-spec : {M : Type 1} → statement M
+running-numbers-spec =
+    tie.close
+    (tie.spec
+    Inv-loop
+    μ-loop
+    loop-holds
+    read-requires
+    opens-at-requires
+    mul-numbers
+    slice-write-numbers
+    add-count
+    add-i
+    loop-less
+    loop-again
+    same-length
+    returns)

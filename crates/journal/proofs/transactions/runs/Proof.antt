@@ -1,0 +1,19 @@
+-- `journal::transactions::runs` meets its contract: it has begun and not ended. Assumes nothing.
+use mathlib.Core.Path.{_≡_, ap, _∙_}
+use mathlib.Core.Bool.{not, _&&_}
+use borrow.Author.Needs.{needs}
+use Rattle.journal.specs.declared.transactions.Trace.{Trace}
+use Rattle.journal.proofs.transactions.runs.Statement.{statement}
+use Rattle.journal.proofs.transactions.runs.Tie as tie
+
+follow-requires : tie.Need-follow-requires
+follow-requires c κs = search needs
+
+runs-requires : tie.Need-runs-requires
+runs-requires c κs = search needs
+
+returns : tie.Need-returns
+returns c = c .runs .ensures ∙ ap (λ (t : Trace). t .begun && not (t .ended)) (c .before .follow .ensures)
+
+pub runs-spec : {M : Type 1} → statement M
+runs-spec = tie.close (tie.spec follow-requires runs-requires returns)

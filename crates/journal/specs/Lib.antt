@@ -1,0 +1,14 @@
+pub mod Kinds
+pub mod Walks
+pub mod Some
+pub mod Meets
+pub mod Gathered
+pub mod WalkJudged
+pub mod CompactColumns
+pub mod Compact
+pub mod CompactLaws
+pub mod UniqueCompact
+pub mod Walk
+pub mod WalkLaws
+pub mod UniqueWalk
+pub mod Unique

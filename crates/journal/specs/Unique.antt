@@ -1,0 +1,50 @@
+-- No second answer satisfies the contract of a public function that says what the records say of transactions and times. Assumes nothing.
+use mathlib.Core.Path.{_≡_, sym, _∙_}
+use mathlib.Core.Bool.{Bool, not, _&&_}
+use mathlib.Core.List.{List}
+use Prim.Native.Nat.{ℕ}
+use Rattle.rules.specs.declared.Record.{Record}
+use Rattle.rules.specs.Transactions.{of, runs}
+use Rattle.rules.specs.Times.{last, next}
+use Rattle.rules.specs.Conflicts.{conflict}
+use Rattle.rules.specs.Checkpoints.{held}
+use Rattle.rules.specs.Recovery.{mayWrite}
+use Rattle.journal.specs.declared.Base.{Base}
+use Rattle.journal.specs.declared.Journal.{Journal}
+use Rattle.journal.specs.declared.transactions.Trace.{Trace}
+use Rattle.journal.specs.Kinds.{emptyBase, emptyJournal}
+use Rattle.journal.specs.Walks.{traceOf, Counted}
+
+pub base-unique : (a b : Base) → a ≡ emptyBase → b ≡ emptyBase → a ≡ b
+base-unique a b p q = p ∙ sym q
+
+pub journal-unique : (a b : Journal) → a ≡ emptyJournal → b ≡ emptyJournal → a ≡ b
+journal-unique a b p q = p ∙ sym q
+
+pub trace-runs-unique : (t : Trace) (a b : Bool) → a ≡ (t .begun && not (t .ended)) → b ≡ (t .begun && not (t .ended)) → a ≡ b
+trace-runs-unique t a b p q = p ∙ sym q
+
+module _ (rs : List Record) where
+  pub last-unique : (low a b : ℕ) → a ≡ last low rs → b ≡ last low rs → a ≡ b
+  last-unique low a b p q = p ∙ sym q
+
+  pub next-unique : (floor a b : ℕ) → a ≡ next floor rs → b ≡ next floor rs → a ≡ b
+  next-unique floor a b p q = p ∙ sym q
+
+  pub follow-unique : (n : ℕ) (a b : Trace) → a ≡ traceOf (of n rs) → b ≡ traceOf (of n rs) → a ≡ b
+  follow-unique n a b p q = p ∙ sym q
+
+  pub runs-unique : (n : ℕ) (a b : Bool) → a ≡ runs n rs → b ≡ runs n rs → a ≡ b
+  runs-unique n a b p q = p ∙ sym q
+
+  pub count-running-unique : (used a b : ℕ) → Counted rs used a → Counted rs used b → a ≡ b
+  count-running-unique used a b p q = p .count ∙ sym (q .count)
+
+  pub held-unique : (t : ℕ) (a b : Bool) → a ≡ held t rs → b ≡ held t rs → a ≡ b
+  held-unique t a b p q = p ∙ sym q
+
+  pub may-write-unique : (n k : ℕ) (a b : Bool) → a ≡ mayWrite n k rs → b ≡ mayWrite n k rs → a ≡ b
+  may-write-unique n k a b p q = p ∙ sym q
+
+  pub conflict-unique : (n : ℕ) (a b : Bool) → a ≡ conflict n rs → b ≡ conflict n rs → a ≡ b
+  conflict-unique n a b p q = p ∙ sym q

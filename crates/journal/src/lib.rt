@@ -1,0 +1,51 @@
+// What the records of a journal say: rules 3.2 to 3.6, read only. Damaged records are records like any other; unknown kinds are passed over.
+// Every walk asks that the used records are there.
+ghost use mathlib.Core.Path.{_≡_};
+ghost use Rattle.journal.specs.Kinds.{emptyBase, emptyJournal};
+
+pub mod compact;
+pub mod conflicts;
+pub mod times;
+pub mod transactions;
+pub mod walk;
+
+// The base table below the journal: how many of its rows are used.
+pub struct Base {
+    pub rows: usize,
+}
+
+impl Base {
+    // How many rows a base has at the most.
+    pub const ROWS: usize = 512;
+
+    pub fn empty() -> Self
+        ensures { λ r. ⌜ r ≡ emptyBase ⌝ }
+    {
+        Base { rows: 0 }
+    }
+}
+
+// The journal: how many of its records are used.
+pub struct Journal {
+    pub used: usize,
+}
+
+impl Journal {
+    // How many records a journal has at the most.
+    pub const RECORDS: usize = 2048;
+
+    // How many transactions run at the most.
+    pub const RUNNING: usize = 8;
+
+    // How many distinct keys a transaction writes at the most.
+    pub const KEYS: usize = 32;
+
+    // The number that no transaction has: next stays there.
+    pub const NO_NUMBER: u32 = 4294967295;
+
+    pub fn empty() -> Self
+        ensures { λ r. ⌜ r ≡ emptyJournal ⌝ }
+    {
+        Journal { used: 0 }
+    }
+}

@@ -1,0 +1,69 @@
+// Rule 3.3: last, and the next number.
+ghost use mathlib.Core.Path.{_≡_};
+ghost use Prim.Native.Nat.{_*_, _≤_};
+ghost use lib.ListN.{length};
+ghost use Rattle.rules.specs.Kinds.{recordBytes};
+ghost use Rattle.rules.specs.Times.{lastStep, aboveStep, last as lastIn, next as nextIn};
+ghost use Rattle.record.specs.Bytes.{newest};
+ghost use Rattle.journal.specs.Walks.{Above};
+use crate::Journal;
+use rules::Record;
+
+// One record more: a commit's time counts.
+fn last_step(r: Record, best: u64) -> u64
+    ensures { λ v. ⌜ v ≡ lastStep r best ⌝ }
+{
+    if r.kind != Record::COMMIT {
+        return best;
+    }
+    if best < r.time {
+        return r.time;
+    }
+    best
+}
+
+// The greatest of low and all commit times.
+pub fn last(journal: &[u8], used: usize, low: u64) -> u64
+    requires { ⌜ used * recordBytes ≤ length (now journal) ⌝ }
+    ensures { λ r. ⌜ r ≡ lastIn low (newest used (now (journal .entry))) ⌝ }
+{
+    let mut best = low;
+    let mut i = 0;
+    while i < used {
+        best = last_step(record::read(journal, i), best);
+        i += 1;
+    }
+    best
+}
+
+// One record more: one more than a begin's number counts. In 64 bits, so that the greatest number has a successor.
+fn above_step(r: Record, best: u64) -> u64
+    requires { ⌜ best ≤ 4294967296 ⌝ }
+    ensures { λ v. ⌜ Above r best v ⌝ }
+{
+    if r.kind != Record::BEGIN {
+        return best;
+    }
+    let above = r.transaction as u64 + 1;
+    if best < above {
+        return above;
+    }
+    best
+}
+
+// The greater of floor and one more than the highest number in a begin, but never above 4,294,967,295.
+pub fn next(journal: &[u8], used: usize, floor: u32) -> u32
+    requires { ⌜ used * recordBytes ≤ length (now journal) ⌝ }
+    ensures { λ r. ⌜ r ≡ nextIn floor (newest used (now (journal .entry))) ⌝ }
+{
+    let mut best = floor as u64;
+    let mut i = 0;
+    while i < used {
+        best = above_step(record::read(journal, i), best);
+        i += 1;
+    }
+    if best < Journal::NO_NUMBER as u64 {
+        return best as u32;
+    }
+    Journal::NO_NUMBER
+}

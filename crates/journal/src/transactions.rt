@@ -1,0 +1,169 @@
+// Rule 3.2: which transactions run, and their snapshots.
+ghost use mathlib.Core.Path.{_≡_};
+ghost use mathlib.Core.Bool.{not, _&&_};
+ghost use Prim.Native.Nat.{_*_, _≤_};
+ghost use lib.ListN.{length};
+ghost use Rattle.rules.specs.Kinds.{recordBytes};
+ghost use Rattle.rules.specs.Transactions.{of, opens, runs as runsIn};
+ghost use Rattle.rules.specs.Checkpoints.{heldBy, held as heldIn};
+ghost use Rattle.record.specs.Bytes.{newest};
+ghost use Rattle.journal.specs.Walks.{traced, traceOf, endedBy, Counted};
+ghost use Rattle.journal.specs.CompactColumns.{RunningOf};
+use crate::Journal;
+use rules::Record;
+
+// What the records say of one transaction.
+pub struct Trace {
+    pub begun: bool,
+    pub ended: bool,
+    pub snapshot: u64,
+}
+
+impl Trace {
+    // It has begun and not ended.
+    pub fn runs(self) -> bool
+        ensures { λ r. ⌜ r ≡ (self .begun && not (self .ended)) ⌝ }
+    {
+        if self.begun {
+            return !self.ended;
+        }
+        false
+    }
+
+    // One record more: the first begin counts, and any end.
+    fn step(self, n: u32, r: Record) -> Trace
+        ensures { λ v. ⌜ v ≡ traced n r self ⌝ }
+    {
+        if r.transaction != n {
+            return self;
+        }
+        if r.kind == Record::BEGIN {
+            if self.begun {
+                return self;
+            }
+            return Trace {
+                begun: true,
+                ended: self.ended,
+                snapshot: r.time,
+            };
+        }
+        if r.kind == Record::COMMIT {
+            return self.end();
+        }
+        if r.kind == Record::ABORT {
+            return self.end();
+        }
+        self
+    }
+
+    // The transaction has ended.
+    fn end(mut self) -> Trace
+        ensures { λ v. ⌜ v ≡ endedBy self ⌝ }
+    {
+        self.ended = true;
+        self
+    }
+}
+
+// Whether a transaction has begun and ended, and the time of its first begin.
+pub fn follow(journal: &[u8], used: usize, n: u32) -> Trace
+    requires { ⌜ used * recordBytes ≤ length (now journal) ⌝ }
+    ensures { λ r. ⌜ r ≡ traceOf (of n (newest used (now (journal .entry)))) ⌝ }
+{
+    let mut trace = Trace {
+        begun: false,
+        ended: false,
+        snapshot: 0,
+    };
+    let mut i = 0;
+    while i < used {
+        trace = trace.step(n, record::read(journal, i));
+        i += 1;
+    }
+    trace
+}
+
+// A transaction runs if the journal has its begin and neither its commit nor its abort.
+pub fn runs(journal: &[u8], used: usize, n: u32) -> bool
+    requires { ⌜ used * recordBytes ≤ length (now journal) ⌝ }
+    ensures { λ r. ⌜ r ≡ runsIn n (newest used (now (journal .entry))) ⌝ }
+{
+    let trace = follow(journal, used, n);
+    trace.runs()
+}
+
+// Whether the record at a place is the first begin of a transaction that runs.
+fn opens_at(journal: &[u8], used: usize, i: usize, r: Record) -> bool
+    requires { ⌜ (used * recordBytes ≤ length (now journal)) × (i ≤ used) ⌝ }
+    ensures { λ b. ⌜ b ≡ opens (newest used (now (journal .entry))) r (newest i (now (journal .entry))) ⌝ }
+{
+    if r.kind != Record::BEGIN {
+        return false;
+    }
+    let before = follow(journal, i, r.transaction);
+    if before.begun {
+        return false;
+    }
+    let all = follow(journal, used, r.transaction);
+    !all.ended
+}
+
+// The running transactions, into a column; how many they are.
+pub(crate) fn running_numbers(journal: &[u8], used: usize, numbers: &mut [u32]) -> usize
+    requires { ⌜ (used * recordBytes ≤ length (now journal)) × (used ≤ length (now numbers)) ⌝ }
+    ensures { λ r. ⌜ RunningOf (newest used (now (journal .entry))) used r (now (numbers .exit)) ⌝ }
+{
+    let mut count = 0;
+    let mut i = 0;
+    while i < used {
+        let r = record::read(journal, i);
+        if opens_at(journal, used, i, r) {
+            numbers[count] = r.transaction;
+            count += 1;
+        }
+        i += 1;
+    }
+    count
+}
+
+// How many transactions run.
+pub fn count_running(journal: &[u8], used: usize) -> usize
+    requires { ⌜ (used ≤ 2048) × (used * recordBytes ≤ length (now journal)) ⌝ }
+    ensures { λ r. ⌜ Counted (newest used (now (journal .entry))) used r ⌝ }
+{
+    let mut numbers = [0u32; Journal::RECORDS];
+    running_numbers(journal, used, &mut numbers)
+}
+
+// Whether a record begins a running transaction whose snapshot lies below a time.
+fn is_held(journal: &[u8], used: usize, t: u64, r: Record) -> bool
+    requires { ⌜ used * recordBytes ≤ length (now journal) ⌝ }
+    ensures { λ b. ⌜ b ≡ heldBy t (newest used (now (journal .entry))) r ⌝ }
+{
+    if r.kind != Record::BEGIN {
+        return false;
+    }
+    let trace = follow(journal, used, r.transaction);
+    if trace.begun {
+        if !trace.ended {
+            return trace.snapshot < t;
+        }
+    }
+    false
+}
+
+// Whether a time lies above a running snapshot.
+pub fn held(journal: &[u8], used: usize, t: u64) -> bool
+    requires { ⌜ used * recordBytes ≤ length (now journal) ⌝ }
+    ensures { λ b. ⌜ b ≡ heldIn t (newest used (now (journal .entry))) ⌝ }
+{
+    let mut found = false;
+    let mut i = 0;
+    while i < used {
+        if is_held(journal, used, t, record::read(journal, i)) {
+            found = true;
+        }
+        i += 1;
+    }
+    found
+}

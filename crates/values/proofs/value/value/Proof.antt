@@ -1,0 +1,197 @@
+-- `values::value` meets its contract. The loop's invariant says what the kept updates do and not what they hold: for every transaction they do
+-- what the first i records do to the key; and v is the value of the first i records. The measure is how many are left. Assumes nothing.
+use mathlib.Core.Path.{_≡_, refl, sym, _∙_}
+use mathlib.Core.Bool.{true, false, _&&_}
+use mathlib.Core.List.{List}
+use mathlib.Core.Logic.{⊎-elim}
+use Prim.Native.Nat.{ℕ, _+_, _-_, _*_, _≤_, _<_}
+use native.Mathlib.Numerals.{add-one}
+use native.Mathlib.Omega.{arith}
+use borrow.Author.Needs.{needs}
+use denote.Ref.{now}
+use lib.Dec.{leb}
+use lib.ListN.{length, set, length-set}
+use Rattle.rules.specs.declared.Record.{Record}
+use Rattle.rules.specs.declared.Value.{Value}
+use Rattle.rules.specs.Kinds.{recordBytes, isCommit}
+use Rattle.rules.specs.Effects.{effects, writes}
+use Rattle.rules.specs.Transactions.{of}
+use Rattle.rules.specs.Values.{settle, value}
+use Rattle.record.specs.Bytes.{newest, recordAt}
+use Rattle.record.specs.Walks.{finish}
+use Rattle.values.specs.Pass.{mostRecords, keptStep, keptEffects}
+use Rattle.values.specs.PassLaws.{kept-more, effects-more, effects-none}
+use Rattle.values.proofs.value.value.Statement.{statement}
+use Rattle.values.proofs.value.value.Tie as tie
+
+-- the kept updates do what the records do to the key
+abbrev Does : ℕ → List Record → List ℕ → List ℕ → List ℕ → ℕ → Type 0
+Does k rs transactions kinds amounts n =
+    (m : ℕ) (x : Value) → keptEffects transactions kinds amounts m n x ≡ effects k (of m rs) x
+
+-- before the record at i
+record Pass (j : List ℕ) (start : Value) (k t i : ℕ) (transactions kinds amounts : List ℕ) (n : ℕ) (v : Value) : Type 0 where
+  few : n ≤ i
+  transactions-room : length transactions ≡ mostRecords
+  kinds-room : length kinds ≡ mostRecords
+  amounts-room : length amounts ≡ mostRecords
+  does : Does k (newest i j) transactions kinds amounts n
+  is : v ≡ value start k t (newest i j)
+
+module _ (j : List ℕ) (start : Value) (k t i : ℕ) (r : Record) (e : r ≡ recordAt j (i * recordBytes)) where
+  module _ (v new : Value) (h : v ≡ value start k t (newest i j)) where
+    settled : new ≡ settle k t r (newest i j) v → new ≡ value start k t (newest (i + 1) j)
+    settled s = rw add-one (s ∙ rw (e, h))
+
+    stands : (isCommit r && leb (r .time) t) ≡ true → new ≡ effects k (of (r .transaction) (newest i j)) v → new ≡ value start k t (newest (i + 1) j)
+    stands q f = settled (rw q f)
+
+    waits : (isCommit r && leb (r .time) t) ≡ false → new ≡ v → new ≡ value start k t (newest (i + 1) j)
+    waits q f = settled (rw q f)
+
+  module _ (transactions kinds amounts : List ℕ) (n : ℕ) (does : Does k (newest i j) transactions kinds amounts n) where
+    kept : (transactions' kinds' amounts' : List ℕ) (n' : ℕ) → transactions' ≡ set transactions n (r .transaction)
+        → kinds' ≡ set kinds n (r .kind) → amounts' ≡ set amounts n (r .value) → n' ≡ n + 1
+        → n < length transactions → n < length kinds → n < length amounts → writes k r ≡ true
+        → Does k (newest (i + 1) j) transactions' kinds' amounts' n'
+    kept transactions' kinds' amounts' n' a b d q h1 h2 h3 w m x =
+        let s : keptEffects transactions' kinds' amounts' m n' x
+        ≡ keptStep (r .transaction) (r .kind) (r .value) m (effects k (of m (newest i j)) x) =
+        rw (a, b, d, q, kept-more transactions kinds amounts n (r .transaction) (r .kind) (r .value) m x h1 h2 h3, does m x)
+        in
+        rw add-one (s ∙ sym (effects-more k m r (newest i j) x w) ∙ rw e)
+
+    passed : (transactions' kinds' amounts' : List ℕ) (n' : ℕ) → transactions' ≡ transactions → kinds' ≡ kinds → amounts' ≡ amounts → n' ≡ n
+        → writes k r ≡ false → Does k (newest (i + 1) j) transactions' kinds' amounts' n'
+    passed transactions' kinds' amounts' n' a b d q w m x =
+        rw (a, b, d, q, add-one) (does m x ∙ sym (effects-none k m r (newest i j) x w) ∙ rw e)
+
+abbrev Inv-loop : tie.InvT-loop
+Inv-loop journal used k t transactions₀ kinds₀ amounts₀ n₀ v₀ i₀ transactions kinds amounts n v i =
+    (i ≤ used) × Pass journal v₀ k t i transactions kinds amounts n v
+
+abbrev μ-loop : tie.MeasureT-loop
+μ-loop journal used k t transactions₀ kinds₀ amounts₀ n₀ v₀ i₀ transactions kinds amounts n v i = used - i
+
+loop-holds : tie.Need-loop-holds Inv-loop μ-loop
+loop-holds c = (
+  omega arith,
+  record {
+    few = omega arith;
+    transactions-room = refl;
+    kinds-room = refl;
+    amounts-room = refl;
+    does = λ m x. refl;
+    is = refl;
+  },
+)
+
+read-requires : tie.Need-read-requires Inv-loop μ-loop
+read-requires c κs = search needs
+
+settles-requires : tie.Need-settles-requires Inv-loop μ-loop
+settles-requires c κs = search needs
+
+slice-aggregate-kept-effects : tie.Need-slice-aggregate-kept-effects Inv-loop μ-loop
+slice-aggregate-kept-effects c = search needs
+
+slice-aggregate-kept-effects-2 : tie.Need-slice-aggregate-kept-effects-2 Inv-loop μ-loop
+slice-aggregate-kept-effects-2 c = search needs
+
+slice-aggregate-kept-effects-3 : tie.Need-slice-aggregate-kept-effects-3 Inv-loop μ-loop
+slice-aggregate-kept-effects-3 c = search needs
+
+kept-effects-requires : tie.Need-kept-effects-requires Inv-loop μ-loop
+kept-effects-requires c κs = search needs
+
+writes-requires : tie.Need-writes-requires Inv-loop μ-loop
+writes-requires c κs = search needs
+
+mul-transactions : tie.Need-mul-transactions Inv-loop μ-loop
+mul-transactions c = search needs
+
+array-write-transactions : tie.Need-array-write-transactions Inv-loop μ-loop
+array-write-transactions c = search needs
+
+array-write-kinds : tie.Need-array-write-kinds Inv-loop μ-loop
+array-write-kinds c = search needs
+
+mul-amounts : tie.Need-mul-amounts Inv-loop μ-loop
+mul-amounts c = search needs
+
+array-write-amounts : tie.Need-array-write-amounts Inv-loop μ-loop
+array-write-amounts c = search needs
+
+add-n : tie.Need-add-n Inv-loop μ-loop
+add-n c = search needs
+
+add-i : tie.Need-add-i Inv-loop μ-loop
+add-i c = search needs
+
+loop-less : tie.Need-loop-less Inv-loop μ-loop
+loop-less c = search needs
+
+loop-again : tie.Need-loop-again Inv-loop μ-loop
+loop-again c =
+    let j1 = c .before .before in
+    let l = j1 .before .before .before .before .loop in
+    let a = j1 .before .before .before .before .before .before .args in
+    let y = l .inv .1 in
+    let e = j1 .before .before .read .ensures in
+    let o = sym (c .before .writes .ensures) in
+    let s = sym (j1 .before .settles .ensures) in
+    let j = now (a .journal) in (
+      omega arith,
+      record {
+        few = ⊎-elim (λ w. omega (arith, y .few)) (λ w. omega (arith, y .few)) (c .if2 .came);
+        transactions-room =
+            ⊎-elim (λ w. rw (w .1) (simp length-set (y .transactions-room))) (λ w. rw (w .1) (y .transactions-room)) (c .if2 .came);
+        kinds-room = ⊎-elim (λ w. rw (w .2) (simp length-set (y .kinds-room))) (λ w. rw (w .2) (y .kinds-room)) (c .if2 .came);
+        amounts-room = ⊎-elim (λ w. rw (w .3) (simp length-set (y .amounts-room))) (λ w. rw (w .3) (y .amounts-room)) (c .if2 .came);
+        does =
+            ⊎-elim
+            (λ w.
+            kept j (a .start) (a .k) (a .t) (l .i) _ e (l .transactions) (l .kinds) (l .amounts) (l .n) (y .does) _ _ _ _ (w .1) (w .2) (w .3) (w .4)
+            (omega arith) (omega arith) (omega arith) (o ∙ w .0 .taken))
+            (λ w.
+            passed j (a .start) (a .k) (a .t) (l .i) _ e (l .transactions) (l .kinds) (l .amounts) (l .n) (y .does) _ _ _ _ (w .1) (w .2) (w .3) (w .4)
+            (o ∙ w .0 .left))
+            (c .if2 .came);
+        is =
+            ⊎-elim
+            (λ w. stands j (a .start) (a .k) (a .t) (l .i) _ e (l .v) _ (y .is) (s ∙ w .0 .taken) (w .5 ∙ w .4 .ensures ∙ y .does _ _))
+            (λ w. waits j (a .start) (a .k) (a .t) (l .i) _ e (l .v) _ (y .is) (s ∙ w .0 .left) (w .1))
+            (j1 .if1 .came);
+      },
+    )
+
+returns : tie.Need-returns Inv-loop μ-loop
+returns c =
+    let l = c .before .loop in
+    let a = c .before .before .before .args in
+    finish (value (a .start) (a .k) (a .t)) (now (a .journal)) (l .i) (a .used) _ (l .inv .1 .is) (omega arith)
+
+pub value-spec : {M : Type 1} → statement M
+value-spec =
+    tie.close
+    (tie.spec
+    Inv-loop
+    μ-loop
+    loop-holds
+    read-requires
+    settles-requires
+    slice-aggregate-kept-effects
+    slice-aggregate-kept-effects-2
+    slice-aggregate-kept-effects-3
+    kept-effects-requires
+    writes-requires
+    mul-transactions
+    array-write-transactions
+    array-write-kinds
+    mul-amounts
+    array-write-amounts
+    add-n
+    add-i
+    loop-less
+    loop-again
+    returns)

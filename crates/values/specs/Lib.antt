@@ -1,0 +1,5 @@
+pub mod Pass
+pub mod PassLaws
+pub mod Lists
+pub mod ListsLaws
+pub mod Unique

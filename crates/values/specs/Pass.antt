@@ -1,0 +1,70 @@
+-- What the value of a key asks of what is lent, and what its pass over the records carries: the key's updates so far, kept in three columns in
+-- the order of the journal. Assumes nothing.
+use mathlib.Core.Bool.{cond}
+use mathlib.Core.List.{List}
+use Prim.Native.Nat.{ℕ, zero, suc, _*_, _≤_}
+use lib.Dec.{eqb}
+use lib.ListN.{length, getD}
+use Rattle.rules.specs.declared.Record.{Record}
+use Rattle.rules.specs.declared.Value.{Value}
+use Rattle.rules.specs.declared.Value.the-variants.{Absent, Present}
+use Rattle.rules.specs.declared.Effect.{Effect}
+use Rattle.rules.specs.declared.Effect.the-variants.{Assign, Add}
+use Rattle.rules.specs.Kinds.{recordBytes}
+use Rattle.rules.specs.Effects.{applied, effect, effects}
+use Rattle.rules.specs.Transactions.{of}
+use Rattle.rules.specs.Values.{Row, valueAt}
+use Rattle.column.specs.declared.Found.{Found}
+use Rattle.column.specs.declared.Found.the-variants.{At, Nothing}
+
+-- so many rows stand in both columns, of a base or of a list
+pub record Rows (keys values : List ℕ) (rows : ℕ) : Type 0 where
+  pub in-keys : rows ≤ length keys
+  pub in-values : rows ≤ length values
+
+-- section 2: at most so many journal records
+abbrev pub mostRecords : ℕ
+mostRecords = 2048
+
+-- the used records stand in the journal, and are not too many
+pub record Records (journal : List ℕ) (used : ℕ) : Type 0 where
+  pub few : used ≤ mostRecords
+  pub there : used * recordBytes ≤ length journal
+
+-- what a value over the base is read from
+pub record Lent (keys values : List ℕ) (rows : ℕ) (journal : List ℕ) (used : ℕ) : Type 0 where
+  pub base : Rows keys values rows
+  pub records : Records journal used
+
+-- so many kept updates stand in their three columns: transaction, kind and amount
+pub record Kept (transactions kinds amounts : List ℕ) (count : ℕ) : Type 0 where
+  pub in-transactions : count ≤ length transactions
+  pub in-kinds : count ≤ length kinds
+  pub in-amounts : count ≤ length amounts
+
+-- the effect of a kept update: kind 2 assigns its amount, kind 3 adds it
+abbrev pub keptEffect : ℕ → ℕ → Effect
+keptEffect kind amount = cond (eqb kind 2) (Assign amount) (Add amount)
+
+-- a kept update makes something of a value where it is the transaction's
+abbrev pub keptStep : ℕ → ℕ → ℕ → ℕ → Value → Value
+keptStep transaction kind amount n old = cond (eqb transaction n) (applied (keptEffect kind amount) old) old
+
+-- what the first kept updates, as many as the count says, make of a value where they are the transaction's, in their order
+abbrev pub keptEffects : List ℕ → List ℕ → List ℕ → ℕ → ℕ → Value → Value
+keptEffects transactions kinds amounts n zero old = old
+keptEffects transactions kinds amounts n (suc i) old =
+    keptStep (getD transactions i 0) (getD kinds i 0) (getD amounts i 0) n (keptEffects transactions kinds amounts n i old)
+
+-- what a record makes of the value of a key where it is the transaction's
+abbrev pub ownStep : ℕ → ℕ → Record → Value → Value
+ownStep n k r old = cond (eqb (r .transaction) n) (effect k r old) old
+
+-- a read of k in transaction n from a snapshot: the value at it, then the transaction's own effects on k in order
+abbrev pub readFrom : List Row → List Record → ℕ → ℕ → ℕ → Value
+readFrom base rs n snapshot k = effects k (of n rs) (valueAt base rs snapshot k)
+
+-- the value of the row that was found, or absent
+abbrev pub foundValue : List ℕ → Found → Value
+foundValue values (At i) = Present (getD values i 0)
+foundValue values Nothing = Absent

@@ -1,0 +1,3 @@
+// Rules 3.4 and 3.5 over a base and a journal: the value of a key at a time, a read, and the list at a time.
+pub mod list;
+pub mod value;

@@ -1,0 +1,173 @@
+// Rules 3.4 and 3.5: the value of a key at a time, in one pass over the records, and a read.
+// The key's updates so far are kept, and applied where a commit stands.
+ghost use mathlib.Core.Path.{_≡_};
+ghost use mathlib.Core.Bool.{_&&_};
+ghost use Prim.Native.Nat.{_*_, _≤_};
+ghost use lib.Dec.{leb};
+ghost use lib.ListN.{length};
+ghost use Rattle.rules.specs.Kinds.{recordBytes, isCommit};
+ghost use Rattle.rules.specs.Effects.{writes as writesTo, effects};
+ghost use Rattle.rules.specs.Transactions.{of};
+ghost use Rattle.rules.specs.Values.{rowValue, valueAt, value as valueIn};
+ghost use Rattle.rules.specs.Columns.{firstRows};
+ghost use Rattle.record.specs.Bytes.{newest};
+ghost use Rattle.values.specs.Pass.{Rows, Records, Lent, Kept, ownStep, keptStep, keptEffects, readFrom};
+use column::Found;
+use journal::Journal;
+use rules::Effect;
+use rules::Record;
+use rules::Value;
+
+// A commit at or before t.
+fn settles(r: Record, t: u64) -> bool
+    ensures { λ b. ⌜ b ≡ (isCommit r && leb (r .time) t) ⌝ }
+{
+    if r.kind != Record::COMMIT {
+        return false;
+    }
+    r.time <= t
+}
+
+// An update of the key. The key is tested first: few records have it.
+fn writes(r: Record, k: u32) -> bool
+    ensures { λ b. ⌜ b ≡ writesTo k r ⌝ }
+{
+    if r.key != k {
+        return false;
+    }
+    r.is_update()
+}
+
+// One kept update: its effect where it is the transaction's.
+fn kept_step(transaction: u32, kind: u8, amount: u32, n: u32, old: Value) -> Value
+    ensures { λ v. ⌜ v ≡ keptStep transaction kind amount n old ⌝ }
+{
+    if transaction != n {
+        return old;
+    }
+    if kind == Record::ASSIGN {
+        return rules::apply(Effect::Assign(amount), old);
+    }
+    rules::apply(Effect::Add(amount), old)
+}
+
+// What the kept updates of one transaction, the first count of them, make of a value, in their order.
+fn kept_effects(
+    transactions: &[u32],
+    kinds: &[u8],
+    amounts: &[u32],
+    count: usize,
+    n: u32,
+    old: Value,
+) -> Value
+    requires { ⌜ Kept (now transactions) (now kinds) (now amounts) count ⌝ }
+    ensures { λ v. ⌜ v ≡ keptEffects (now (transactions .entry)) (now (kinds .entry)) (now (amounts .entry)) n count old ⌝ }
+{
+    let mut v = old;
+    let mut i = 0;
+    while i < count {
+        v = kept_step(transactions[i], kinds[i], amounts[i], n, v);
+        i += 1;
+    }
+    v
+}
+
+// The value of k at t; start is the value of its base row.
+pub fn value(journal: &[u8], used: usize, start: Value, k: u32, t: u64) -> Value
+    requires { ⌜ Records (now journal) used ⌝ }
+    ensures { λ v. ⌜ v ≡ valueIn start k t (newest used (now (journal .entry))) ⌝ }
+{
+    let mut transactions = [0u32; Journal::RECORDS];
+    let mut kinds = [0u8; Journal::RECORDS];
+    let mut amounts = [0u32; Journal::RECORDS];
+    let mut n = 0;
+    let mut v = start;
+    let mut i = 0;
+    while i < used {
+        let r = record::read(journal, i);
+        if settles(r, t) {
+            v = kept_effects(&transactions, &kinds, &amounts, n, r.transaction, v);
+        }
+        if writes(r, k) {
+            transactions[n] = r.transaction;
+            kinds[n] = r.kind;
+            amounts[n] = r.value;
+            n += 1;
+        }
+        i += 1;
+    }
+    v
+}
+
+// One record more: its effect on the key where it is the transaction's.
+fn own_step(r: Record, n: u32, k: u32, old: Value) -> Value
+    ensures { λ v. ⌜ v ≡ ownStep n k r old ⌝ }
+{
+    if r.transaction != n {
+        return old;
+    }
+    if writes(r, k) {
+        return rules::apply(r.effect(), old);
+    }
+    old
+}
+
+// What the effects of transaction n on k make of a value, in their order.
+pub fn own_effects(journal: &[u8], used: usize, n: u32, k: u32, old: Value) -> Value
+    requires { ⌜ used * recordBytes ≤ length (now journal) ⌝ }
+    ensures { λ v. ⌜ v ≡ effects k (of n (newest used (now (journal .entry)))) old ⌝ }
+{
+    let mut v = old;
+    let mut i = 0;
+    while i < used {
+        v = own_step(record::read(journal, i), n, k, v);
+        i += 1;
+    }
+    v
+}
+
+// The value of k's base row, or absent.
+pub fn base_value(keys: &[u32], values: &[u32], rows: usize, k: u32) -> Value
+    requires { ⌜ Rows (now keys) (now values) rows ⌝ }
+    ensures { λ v. ⌜ v ≡ rowValue (firstRows rows (now (keys .entry)) (now (values .entry))) k ⌝ }
+{
+    let found = column::find(keys, rows, k);
+    match found {
+        Found::At(i) => Value::Present(values[i]),
+        Found::Nothing => Value::Absent,
+    }
+}
+
+// The value of k at t, over the base.
+pub fn value_at(
+    keys: &[u32],
+    values: &[u32],
+    rows: usize,
+    journal: &[u8],
+    used: usize,
+    k: u32,
+    t: u64,
+) -> Value
+    requires { ⌜ Lent (now keys) (now values) rows (now journal) used ⌝ }
+    ensures { λ v. ⌜ v ≡ valueAt (firstRows rows (now (keys .entry)) (now (values .entry))) (newest used (now (journal .entry))) t k ⌝ }
+{
+    value(journal, used, base_value(keys, values, rows, k), k, t)
+}
+
+// A read of k in transaction n: the value at the snapshot, then its own effects on k in order.
+pub fn read_in(
+    keys: &[u32],
+    values: &[u32],
+    rows: usize,
+    journal: &[u8],
+    used: usize,
+    n: u32,
+    snapshot: u64,
+    k: u32,
+) -> Value
+    requires { ⌜ Lent (now keys) (now values) rows (now journal) used ⌝ }
+    ensures { λ v. ⌜ v ≡ readFrom (firstRows rows (now (keys .entry)) (now (values .entry))) (newest used (now (journal .entry))) n snapshot k ⌝ }
+{
+    let v = value_at(keys, values, rows, journal, used, k, snapshot);
+    own_effects(journal, used, n, k, v)
+}
