@@ -70,6 +70,11 @@ abbrev pub ofBegun : Begun → Reply
 ofBegun (begun.Number n) = accepted (Present n)
 ofBegun (begun.Refused x) = refused x
 
+-- the transaction number, 0 where the call was refused
+abbrev pub begunNumber : Begun → ℕ
+begunNumber (begun.Number n) = n
+begunNumber (begun.Refused x) = 0
+
 -- the value or absent
 abbrev pub ofGot : Got → Reply
 ofGot (got.Value v) = accepted v

@@ -1,7 +1,8 @@
 // Section 6: what the calls of both stores answer. A refused call answers its number alone, 13 also its place; what an accepted one answers
 // is its own enum's.
 ghost use mathlib.Core.Path.{_≡_};
-ghost use Rattle.answer.specs.Reply.{numberOf, placeNumber};
+ghost use lib.Dec.{eqb};
+ghost use Rattle.answer.specs.Reply.{numberOf, placeNumber, begunNumber, ofBegun, ofDone, ofListed};
 use rules::Value;
 
 // Why a call was refused, in the order of the numbers.
@@ -71,6 +72,28 @@ pub enum Begun {
     Refused(Refusal),
 }
 
+impl Begun {
+    // Whether the call was accepted.
+    pub fn accepted(self) -> bool
+        ensures { λ r. ⌜ r ≡ eqb (ofBegun self .number) 0 ⌝ }
+    {
+        match self {
+            Begun::Number(_) => true,
+            Begun::Refused(_) => false,
+        }
+    }
+
+    // The transaction's number, 0 where there is none.
+    pub fn number(self) -> u32
+        ensures { λ r. ⌜ r ≡ begunNumber self ⌝ }
+    {
+        match self {
+            Begun::Number(n) => n,
+            Begun::Refused(_) => 0,
+        }
+    }
+}
+
 // What read and lookup answer.
 pub enum Got {
     Value(Value),
@@ -83,8 +106,32 @@ pub enum Done {
     Refused(Refusal),
 }
 
+impl Done {
+    // Whether the call was accepted.
+    pub fn accepted(self) -> bool
+        ensures { λ r. ⌜ r ≡ eqb (ofDone self .number) 0 ⌝ }
+    {
+        match self {
+            Done::Accepted => true,
+            Done::Refused(_) => false,
+        }
+    }
+}
+
 // What list answers: how many rows it filled.
 pub enum Listed {
     Rows(usize),
     Refused(Refusal),
+}
+
+impl Listed {
+    // Whether the call was accepted.
+    pub fn accepted(self) -> bool
+        ensures { λ r. ⌜ r ≡ eqb (ofListed self .number) 0 ⌝ }
+    {
+        match self {
+            Listed::Rows(_) => true,
+            Listed::Refused(_) => false,
+        }
+    }
 }

@@ -1,0 +1,47 @@
+-- `journal_store::abort::decide` meets its contract: a law for each way out. Assumes nothing.
+use mathlib.Core.Path.{_≡_, sym, _∙_}
+use borrow.Author.Tests.{not-true, not-false}
+use lib.ListN.{length}
+use Rattle.record.specs.Laws.{length-newest}
+use Rattle.journal_store.specs.Shape.{roomOf, meaning}
+use Rattle.journal_store.specs.Tests.{abort-unknown, abort-room, abort-done}
+use borrow.Author.Needs.{needs}
+use denote.Ref.{now}
+use Rattle.journal_store.proofs.abort.decide.Statement.{statement}
+use Rattle.journal_store.proofs.abort.decide.Tie as tie
+
+runs-requires : tie.Need-runs-requires
+runs-requires c κs = search needs
+
+returns : tie.Need-returns
+returns c =
+    let rn = c .before in
+    let a = rn .before .before .before .before .args in
+    abort-unknown (roomOf (length (now (a .journal)))) (meaning (a .h) (now (a .keys)) (now (a .values)) (now (a .journal))) (a .n) _ (rn .runs .ensures) (not-true _ (c .if1 .taken))
+
+room-requires : tie.Need-room-requires
+room-requires c κs = search needs
+
+add-if2 : tie.Need-add-if2
+add-if2 c = search needs
+
+returns-2 : tie.Need-returns-2
+returns-2 c =
+    let rm = c .before in
+    let e1 = rm .before in
+    let rn = e1 .before in
+    let a = rn .before .before .before .before .args in
+    abort-room (roomOf (length (now (a .journal)))) (meaning (a .h) (now (a .keys)) (now (a .values)) (now (a .journal))) (a .n) _ (rn .runs .ensures) (not-false _ (e1 .if1 .left)) (a .h .journal .used) (length-newest (a .h .journal .used) (now (a .journal)))
+    (rw (rm .room .ensures) at (c .if2 .taken))
+
+returns-3 : tie.Need-returns-3
+returns-3 c =
+    let rm = c .before in
+    let e1 = rm .before in
+    let rn = e1 .before in
+    let a = rn .before .before .before .before .args in
+    abort-done (roomOf (length (now (a .journal)))) (meaning (a .h) (now (a .keys)) (now (a .values)) (now (a .journal))) (a .n) _ (rn .runs .ensures) (not-false _ (e1 .if1 .left)) (a .h .journal .used) (length-newest (a .h .journal .used) (now (a .journal)))
+    (rw (rm .room .ensures) at (c .if2 .left))
+
+pub decide-spec : {M : Type 1} → statement M
+decide-spec = tie.close (tie.spec runs-requires returns room-requires add-if2 returns-2 returns-3)

@@ -1,0 +1,93 @@
+-- `journal_store::commit::decide` meets its contract: a law for each way out. Assumes nothing.
+use mathlib.Core.Path.{_≡_, sym, _∙_}
+use borrow.Author.Tests.{not-true, not-false}
+use lib.ListN.{length}
+use Rattle.record.specs.Laws.{length-newest}
+use Rattle.journal_store.specs.Shape.{roomOf, meaning}
+use Rattle.journal_store.specs.Tests.{commit-unknown, commit-later, commit-conflict, commit-room, commit-done}
+use borrow.Author.Needs.{needs}
+use denote.Ref.{now}
+use Rattle.journal_store.proofs.commit.decide.Statement.{statement}
+use Rattle.journal_store.proofs.commit.decide.Tie as tie
+
+runs-requires : tie.Need-runs-requires
+runs-requires c κs = search needs
+
+returns : tie.Need-returns
+returns c =
+    let rn = c .before in
+    let a = rn .before .before .before .before .args in
+    commit-unknown (roomOf (length (now (a .journal)))) (meaning (a .h) (now (a .keys)) (now (a .values)) (now (a .journal))) (a .n) _ (rn .runs .ensures) (a .t) (not-true _ (c .if1 .taken))
+
+last-requires : tie.Need-last-requires
+last-requires c κs = search needs
+
+returns-2 : tie.Need-returns-2
+returns-2 c =
+    let la = c .before in
+    let e1 = la .before in
+    let rn = e1 .before in
+    let a = rn .before .before .before .before .args in
+    commit-later (roomOf (length (now (a .journal)))) (meaning (a .h) (now (a .keys)) (now (a .values)) (now (a .journal))) (a .n) _ (rn .runs .ensures) (not-false _ (e1 .if1 .left)) (a .t) _ (la .last .ensures)
+    (c .if2 .taken)
+
+conflict-requires : tie.Need-conflict-requires
+conflict-requires c κs = search needs
+
+returns-3 : tie.Need-returns-3
+returns-3 c =
+    let co = c .before in
+    let e2 = co .before in
+    let la = e2 .before in
+    let e1 = la .before in
+    let rn = e1 .before in
+    let a = rn .before .before .before .before .args in
+    commit-conflict (roomOf (length (now (a .journal)))) (meaning (a .h) (now (a .keys)) (now (a .values)) (now (a .journal))) (a .n) _ (rn .runs .ensures) (not-false _ (e1 .if1 .left)) (a .t) _ (la .last .ensures)
+    (e2 .if2 .left) _ (co .conflict .ensures) (c .if3 .taken)
+
+room-requires : tie.Need-room-requires
+room-requires c κs = search needs
+
+add-if4 : tie.Need-add-if4
+add-if4 c = search needs
+
+returns-4 : tie.Need-returns-4
+returns-4 c =
+    let rm = c .before in
+    let e3 = rm .before in
+    let co = e3 .before in
+    let e2 = co .before in
+    let la = e2 .before in
+    let e1 = la .before in
+    let rn = e1 .before in
+    let a = rn .before .before .before .before .args in
+    commit-room (roomOf (length (now (a .journal)))) (meaning (a .h) (now (a .keys)) (now (a .values)) (now (a .journal))) (a .n) _ (rn .runs .ensures) (not-false _ (e1 .if1 .left)) (a .t) _ (la .last .ensures)
+    (e2 .if2 .left) _ (co .conflict .ensures) (e3 .if3 .left) (a .h .journal .used) (length-newest (a .h .journal .used) (now (a .journal))) (rw (rm .room .ensures) at (c .if4 .taken))
+
+returns-5 : tie.Need-returns-5
+returns-5 c =
+    let rm = c .before in
+    let e3 = rm .before in
+    let co = e3 .before in
+    let e2 = co .before in
+    let la = e2 .before in
+    let e1 = la .before in
+    let rn = e1 .before in
+    let a = rn .before .before .before .before .args in
+    commit-done (roomOf (length (now (a .journal)))) (meaning (a .h) (now (a .keys)) (now (a .values)) (now (a .journal))) (a .n) _ (rn .runs .ensures) (not-false _ (e1 .if1 .left)) (a .t) _ (la .last .ensures)
+    (e2 .if2 .left) _ (co .conflict .ensures) (e3 .if3 .left) (a .h .journal .used) (length-newest (a .h .journal .used) (now (a .journal))) (rw (rm .room .ensures) at (c .if4 .left))
+
+pub decide-spec : {M : Type 1} → statement M
+decide-spec =
+    tie.close
+    (tie.spec
+    runs-requires
+    returns
+    last-requires
+    returns-2
+    conflict-requires
+    returns-3
+    room-requires
+    add-if4
+    returns-4
+    returns-5)

@@ -1,0 +1,104 @@
+-- `journal_store::recover::recover` meets its contract: the shape test, the walk, and where it accepts the records that stay. Assumes nothing.
+use mathlib.Core.Path.{_≡_, sym, ap, _∙_}
+use mathlib.Core.Bool.{true}
+use Prim.Native.Nat.{_*_, _≤_, _/_}
+use borrow.Author.Tests.{not-true, not-false}
+use lib.ListN.{length}
+use Rattle.rules.specs.Recovery.{accepts}
+use Rattle.journal.specs.WalkJudged.{walk-whole}
+use Rattle.journal_store.specs.Recover.{surviving, recoverable, recover-bad, recover-refused, recover-done}
+use borrow.Author.Needs.{needs}
+use native.Mathlib.Omega.{arith}
+use denote.Ref.{now}
+use Rattle.journal_store.proofs.recover.recover.Statement.{statement}
+use Rattle.journal_store.proofs.recover.recover.Tie as tie
+
+shaped-requires : tie.Need-shaped-requires
+shaped-requires c κs = search needs
+
+returns : tie.Need-returns
+returns c =
+    let sh = c .before in
+    let a = sh .before .before .before .before .args in
+    recover-bad (a .h) (now (a .keys)) (now (a .values)) (now (a .journal)) (a .survived) (sym (sh .shaped .ensures) ∙ not-true _ (c .if1 .taken))
+
+walk-requires : tie.Need-walk-requires
+walk-requires c κs =
+    let e1 = c .before in
+    let sh = e1 .before in
+    let a = sh .before .before .before .before .args in
+    let z = sym (sh .shaped .ensures) ∙ not-false _ (e1 .if1 .left) in
+    let q = recoverable (a .h) (now (a .keys)) (length (now (a .values))) (length (now (a .journal))) (a .survived) z in
+    (q .few, omega (arith, q .there, q .within))
+
+enum-known-walked : tie.Need-enum-known-walked
+enum-known-walked c = search needs
+
+enum-told : tie.Need-enum-told
+enum-told c = search needs
+
+next-requires : tie.Need-next-requires
+next-requires c κs =
+    let wk = c .before .before .before in
+    let e1 = wk .before .before in
+    let sh = e1 .before in
+    let a = sh .before .before .before .before .args in
+    let z = sym (sh .shaped .ensures) ∙ not-false _ (e1 .if1 .left) in
+    let q = recoverable (a .h) (now (a .keys)) (length (now (a .values))) (length (now (a .journal))) (a .survived) z in
+    omega (arith, q .there, q .within)
+
+keep-done-requires : tie.Need-keep-done-requires
+keep-done-requires c κs =
+    let et = c .before .before .before in
+    let wk = et .before .before in
+    let e1 = wk .before .before in
+    let sh = e1 .before in
+    let a = sh .before .before .before .before .args in
+    let z = sym (sh .shaped .ensures) ∙ not-false _ (e1 .if1 .left) in
+    let q = recoverable (a .h) (now (a .keys)) (length (now (a .values))) (length (now (a .journal))) (a .survived) z in
+    (q .few, q .there, q .within, walk-whole (a .h .low) (surviving (a .survived) (now (a .journal))) (sym (wk .walk .ensures) ∙ et .enum-told .given .1))
+
+same-length : tie.Need-same-length
+same-length c = search needs
+
+returns-2 : tie.Need-returns-2
+returns-2 c =
+    let wd = c .before in
+    let wk = wd .before .before in
+    let e1 = wk .before .before in
+    let sh = e1 .before in
+    let a = sh .before .before .before .before .args in
+    let z = sym (sh .shaped .ensures) ∙ not-false _ (e1 .if1 .left) in
+    recover-refused (a .h) (now (a .keys)) (now (a .values)) (now (a .journal)) (a .survived) z _ (wk .walk .ensures) _ (wd .walked .given .1)
+
+same-length-2 : tie.Need-same-length-2
+same-length-2 c = search needs
+
+returns-3 : tie.Need-returns-3
+returns-3 c =
+    let kd = c .before .before .before in
+    let nx = kd .before .before in
+    let et = nx .before .before in
+    let wk = et .before .before in
+    let e1 = wk .before .before in
+    let sh = e1 .before in
+    let a = sh .before .before .before .before .args in
+    let z = sym (sh .shaped .ensures) ∙ not-false _ (e1 .if1 .left) in
+    recover-done (a .h) (now (a .keys)) (now (a .values)) (now (a .journal)) (a .survived) z _ (wk .walk .ensures) _ _ (et .enum-told .given .1)
+    (rw (nx .next .ensures, kd .keep-done .ensures .count)) (kd .keep-done .ensures .cells)
+
+pub recover-spec : {M : Type 1} → statement M
+recover-spec =
+    tie.close
+    (tie.spec
+    shaped-requires
+    returns
+    walk-requires
+    enum-known-walked
+    enum-told
+    next-requires
+    keep-done-requires
+    same-length
+    returns-2
+    same-length-2
+    returns-3)

@@ -1,0 +1,10 @@
+pub mod Shape
+pub mod Write
+pub mod Tests
+pub mod Read
+pub mod List
+pub mod Checkpoint
+pub mod Recover
+pub mod Unique
+pub mod Marked
+pub mod Tie

@@ -1,0 +1,79 @@
+-- The journal store as it is lent: its shape, its room, and what it means. Assumes nothing.
+use mathlib.Core.Path.{_≡_, refl}
+use mathlib.Core.Bool.{Bool, true, false, not, _&&_}
+use mathlib.Core.List.{List}
+use Prim.Native.Nat.{ℕ, _+_, _*_, _/_, _≤_, min}
+use native.Mathlib.Omega.{arith}
+use lib.Dec.{eqb, leb}
+use borrow.Author.Tests.{leb-true, eqb-true, eqb-false, not-true}
+use Rattle.rules.specs.Bools.{and-left, and-right}
+use Rattle.rules.specs.Kinds.{recordBytes}
+use Rattle.rules.specs.Columns.{firstRows}
+use Rattle.rules.specs.Calls.{Store}
+use Rattle.record.specs.Bytes.{newest}
+use Rattle.journal.specs.declared.Base.{Base}
+use Rattle.journal.specs.declared.Journal.{Journal}
+use Rattle.journal.specs.Kinds.{emptyBase, emptyJournal}
+use Rattle.journal_store.specs.declared.Head.{Head}
+
+-- low 0, floor 1, no rows, no records
+abbrev pub emptyHead : Head
+emptyHead = record { low = 0; floor = 1; base = emptyBase; journal = emptyJournal }
+
+-- one record more
+abbrev pub grown : Head → Head
+grown h = record { low = h .low; floor = h .floor; base = h .base; journal = record { used = h .journal .used + 1 } }
+
+-- section 6, number 1: base rows and used records within limit and room, paired columns of one length, floor not 0
+abbrev pub isShaped : Head → ℕ → ℕ → ℕ → Bool
+isShaped h keys values bytes =
+    leb (h .base .rows) 512
+    && (leb (h .base .rows) keys
+    && (eqb keys values && (leb (h .journal .used) 2048 && (leb (h .journal .used) (bytes / recordBytes) && not (eqb (h .floor) 0)))))
+
+-- how many records fit into so many bytes, and how many rows into columns of such a length
+abbrev pub roomOf : ℕ → ℕ
+roomOf bytes = min 2048 (bytes / recordBytes)
+
+abbrev pub rowRoom : ℕ → ℕ
+rowRoom rows = min 512 rows
+
+-- what the lent cells mean: the used rows of the base, and the used records of the journal, the newest first
+abbrev pub meaning : Head → List ℕ → List ℕ → List ℕ → Store
+meaning h keys values journal =
+    record {
+      low = h .low;
+      floor = h .floor;
+      base = firstRows (h .base .rows) keys values;
+      records = newest (h .journal .used) journal;
+    }
+
+-- what a good shape says
+pub record Shaped (h : Head) (keys values bytes : ℕ) : Type 0 where
+  pub rowsLimit : h .base .rows ≤ 512
+  pub rows : h .base .rows ≤ keys
+  pub paired : keys ≡ values
+  pub usedLimit : h .journal .used ≤ 2048
+  pub used : h .journal .used * recordBytes ≤ bytes
+  pub floored : h .floor ≡ 0 → ⊥
+
+pub shape : (h : Head) (keys values bytes : ℕ) → isShaped h keys values bytes ≡ true → Shaped h keys values bytes
+shape h keys values bytes e =
+    let a = leb (h .base .rows) 512 in
+    let b = leb (h .base .rows) keys in
+    let c = eqb keys values in
+    let d = leb (h .journal .used) 2048 in
+    let f = leb (h .journal .used) (bytes / recordBytes) in
+    let g = not (eqb (h .floor) 0) in
+    let e1 = and-right a (b && (c && (d && (f && g)))) e in
+    let e2 = and-right b (c && (d && (f && g))) e1 in
+    let e3 = and-right c (d && (f && g)) e2 in
+    let e4 = and-right d (f && g) e3 in
+    record {
+      rowsLimit = leb-true _ _ (and-left a (b && (c && (d && (f && g)))) e);
+      rows = leb-true _ _ (and-left b (c && (d && (f && g))) e1);
+      paired = eqb-true _ _ (and-left c (d && (f && g)) e2);
+      usedLimit = leb-true _ _ (and-left d (f && g) e3);
+      used = let l : h .journal .used ≤ bytes / recordBytes = leb-true _ _ (and-left f g e4) in omega arith;
+      floored = eqb-false _ _ (not-true _ (and-right f g e4));
+    }

@@ -1,0 +1,12 @@
+pub mod Bits
+pub mod BitLaws
+pub mod Slot
+pub mod Slots
+pub mod Laws
+pub mod Formed
+pub mod Places
+pub mod RowLaws
+pub mod FormedLaws
+pub mod PlaceLaws
+pub mod Unique
+pub mod Examples

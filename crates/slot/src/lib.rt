@@ -1,0 +1,232 @@
+// The transaction slots of the map store, rule 3.8: they pass by value, and each operation hands the changed one back.
+ghost use mathlib.Core.Bool.{true};
+ghost use mathlib.Core.Path.{_≡_};
+ghost use Prim.Native.Nat.{ℕ, _<_};
+ghost use lib.Count.{ones};
+ghost use Rattle.slot.specs.Slot.{emptySlot, openedSlot, rowOf};
+ghost use Rattle.slot.specs.Slot.{noted as notedSlot};
+ghost use Rattle.slot.specs.Slots.{emptySlots, slotAt, isOccupied, lowestFree, slotOf, slotsShaped, slotsHold, openedIn, notedIn, closedIn};
+ghost use Rattle.slot.specs.Formed.{Formed};
+use column::Found;
+
+// A transaction's slot: its number and snapshot, and a row for each key that it wrote, with the running value. count rows are in use.
+pub struct Slot {
+    pub number: u32,
+    pub snapshot: u64,
+    pub count: usize,
+    pub keys: [u32; 32],
+    pub values: [u32; 32],
+}
+
+impl Slot {
+    // How many distinct keys one transaction can write.
+    pub const KEYS: usize = 32;
+
+    // A free slot is all zero.
+    pub fn free() -> Self
+        ensures { λ r. ⌜ r ≡ emptySlot ⌝ }
+    {
+        Slot {
+            number: 0,
+            snapshot: 0,
+            count: 0,
+            keys: [0; Slot::KEYS],
+            values: [0; Slot::KEYS],
+        }
+    }
+
+    // The slot freed: all zero, whatever was there.
+    pub fn close(mut self) -> Self
+        ensures { λ r. ⌜ r ≡ emptySlot ⌝ }
+    {
+        self.number = 0;
+        self.snapshot = 0;
+        self.count = 0;
+        self.keys = [0; Slot::KEYS];
+        self.values = [0; Slot::KEYS];
+        self
+    }
+
+    // The slot taken by a new transaction: all zero but for number and snapshot, whatever was there.
+    pub fn open(mut self, number: u32, snapshot: u64) -> Self
+        ensures { λ r. ⌜ r ≡ openedSlot number snapshot ⌝ }
+    {
+        self = self.close();
+        self.number = number;
+        self.snapshot = snapshot;
+        self
+    }
+
+    // The row of a key: the first below the count that has it, one of the 32 whatever the count.
+    pub fn find(self, key: u32) -> Found
+        ensures { λ r. ⌜ r ≡ rowOf self key ⌝ }
+        ensures { λ r. ⌜ ((i : ℕ) → r ≡ Found.At i → i < 32) ⌝ }
+    {
+        let keys = self.keys;
+        column::find(&keys, self.count, key)
+    }
+
+    // A write noted: the running value goes into the key's row, or into a new one; nothing changes where no row is left for a new key.
+    pub fn note(mut self, key: u32, value: u32) -> Self
+        ensures { λ r. ⌜ r ≡ notedSlot self key value ⌝ }
+    {
+        let count = self.count;
+        match self.find(key) {
+            Found::At(i) => {
+                self.values[i] = value;
+                self
+            }
+            Found::Nothing => {
+                if count >= Slot::KEYS {
+                    return self;
+                }
+                self.keys[count] = key;
+                self.values[count] = value;
+                self.count = count + 1;
+                self
+            }
+        }
+    }
+}
+
+// The eight slots, and the number whose one bits are the occupied ones.
+pub struct Slots {
+    pub occupied: u8,
+    pub slots: [Slot; 8],
+}
+
+impl Slots {
+    // How many transactions can run.
+    pub const SLOTS: usize = 8;
+
+    // All slots free.
+    pub fn empty() -> Self
+        ensures { λ r. ⌜ r ≡ emptySlots ⌝ }
+    {
+        let s = Slot::free();
+        Slots {
+            occupied: 0,
+            slots: [s; Slots::SLOTS],
+        }
+    }
+
+    // How many transactions run.
+    pub fn running(self) -> u32
+        ensures { λ r. ⌜ r ≡ ones (self .occupied) ⌝ }
+    {
+        u8::count_ones(self.occupied)
+    }
+
+    // The lowest-numbered free slot, 8 where none is free: trailing ones, by the trailing zeros of the complement.
+    pub fn lowest_free(self) -> usize
+        ensures { λ r. ⌜ r ≡ lowestFree self ⌝ }
+    {
+        u8::trailing_zeros(!self.occupied) as usize
+    }
+
+    // Slot i is occupied; from 8 on none is.
+    pub fn is_occupied(self, i: usize) -> bool
+        ensures { λ r. ⌜ r ≡ isOccupied self i ⌝ }
+    {
+        if i >= Slots::SLOTS {
+            return false;
+        }
+        (self.occupied >> i) % 2 == 1
+    }
+
+    // The slot at an index.
+    pub fn at(self, index: usize) -> Slot
+        requires { ⌜ index < 8 ⌝ }
+        ensures { λ r. ⌜ r ≡ slotAt self index ⌝ }
+    {
+        self.slots[index]
+    }
+
+    // The lowest occupied slot with the number, one of the eight.
+    pub fn find(self, number: u32) -> Found
+        ensures { λ r. ⌜ r ≡ slotOf self number ⌝ }
+        ensures { λ r. ⌜ ((i : ℕ) → r ≡ Found.At i → i < 8) ⌝ }
+    {
+        let mut i = 0;
+        while i < Slots::SLOTS {
+            if self.is_occupied(i) {
+                let s = self.at(i);
+                if s.number == number {
+                    return Found::At(i);
+                }
+            }
+            i += 1;
+        }
+        Found::Nothing
+    }
+
+    // A new transaction in the lowest-numbered free slot; nothing changes where none is free.
+    pub fn opened(mut self, number: u32, snapshot: u64) -> Self
+        ensures { λ r. ⌜ r ≡ openedIn self number snapshot ⌝ }
+    {
+        let i = self.lowest_free();
+        if i >= Slots::SLOTS {
+            return self;
+        }
+        let s = self.slots[i];
+        self.slots[i] = s.open(number, snapshot);
+        self.occupied = self.occupied | 1u8 << i;
+        self
+    }
+
+    // A write noted in slot i.
+    pub fn noted(mut self, i: usize, key: u32, value: u32) -> Self
+        requires { ⌜ i < 8 ⌝ }
+        ensures { λ r. ⌜ r ≡ notedIn self i key value ⌝ }
+    {
+        let s = self.slots[i];
+        self.slots[i] = s.note(key, value);
+        self
+    }
+
+    // Slot i freed: all zero, its bit too.
+    pub fn closed(mut self, i: usize) -> Self
+        requires { ⌜ i < 8 ⌝ }
+        ensures { λ r. ⌜ r ≡ closedIn self i ⌝ }
+    {
+        let s = self.slots[i];
+        self.slots[i] = s.close();
+        self.occupied = self.occupied & !(1u8 << i);
+        self
+    }
+
+    // No occupied slot has more than 32 keys. Where that is so the slots are formed, which the laws of their meaning ask.
+    pub fn shaped(self) -> bool
+        ensures { λ r. ⌜ r ≡ slotsShaped self ⌝ }
+        ensures { λ r. ⌜ (r ≡ true → Formed self) ⌝ }
+    {
+        let mut i = 0;
+        while i < Slots::SLOTS {
+            if self.is_occupied(i) {
+                let s = self.at(i);
+                if s.count > Slot::KEYS {
+                    return false;
+                }
+            }
+            i += 1;
+        }
+        true
+    }
+
+    // The time is above the snapshot of an occupied slot.
+    pub fn holds(self, t: u64) -> bool
+        ensures { λ r. ⌜ r ≡ slotsHold self t ⌝ }
+    {
+        let mut i = 0;
+        while i < Slots::SLOTS {
+            if self.is_occupied(i) {
+                let s = self.at(i);
+                if s.snapshot < t {
+                    return true;
+                }
+            }
+            i += 1;
+        }
+        false
+    }
+}

@@ -1,0 +1,93 @@
+-- Rules 3.6, 3.8 and 3.10 on the versions of the map store, the newest row first: the newest version of a key at or before a time, its value,
+-- a version later than a snapshot, what a checkpoint keeps, and the list at a time. Assumes nothing.
+use mathlib.Core.Bool.{Bool, true, false, cond, _&&_, _||_}
+use mathlib.Core.List.{List, [], _∷_}
+use Prim.Native.Nat.{ℕ, zero, suc}
+use lib.Dec.{eqb, leb, ltb}
+use lib.ListN.{length, getD}
+use Rattle.column.specs.declared.Found.{Found}
+use Rattle.column.specs.declared.Found.the-variants as found
+use Rattle.rules.specs.declared.Value.{Value}
+use Rattle.rules.specs.declared.Value.the-variants.{Absent, Present}
+use Rattle.rules.specs.Values.{Row}
+use Rattle.rules.specs.Lists.{listed}
+use Rattle.versions.specs.declared.Version.{Version}
+
+-- row i of the columns of keys, times and values
+abbrev pub versionAt : ℕ → List ℕ → List ℕ → List ℕ → Version
+versionAt i keys times values = record { key = getD keys i 0; time = getD times i 0; value = getD values i 0 }
+
+-- the first n rows of the columns, the last one first
+abbrev pub versionsOf : ℕ → List ℕ → List ℕ → List ℕ → List Version
+versionsOf zero keys times values = []
+versionsOf (suc n) keys times values = versionAt n keys times values ∷ versionsOf n keys times values
+
+-- what a search finds: nothing, or a version's row, time and value
+pub data Best : Type 0 where
+  nothing : Best
+  at : ℕ → ℕ → ℕ → Best
+
+-- a version at time u is better than what was found in the rows before it: the earliest row among equals stays
+abbrev pub better : Best → ℕ → Bool
+better nothing u = true
+better (at i t v) u = ltb t u
+
+-- one row more, row i: it is found if it has the key, is at or before t, and is better
+abbrev pub newestStep : ℕ → ℕ → Version → ℕ → Best → Best
+newestStep k t v i b = cond (eqb (v .key) k && (leb (v .time) t && better b (v .time))) (at i (v .time) (v .value)) b
+
+-- the newest version of k at or before t: the greatest time, the earliest row among equals
+abbrev pub newest : ℕ → ℕ → List Version → Best
+newest k t [] = nothing
+newest k t (v ∷ older) = newestStep k t v (length older) (newest k t older)
+
+-- the row of what was found
+abbrev pub rowOf : Best → Found
+rowOf nothing = found.Nothing
+rowOf (at i t v) = found.At i
+
+-- the value of what was found
+abbrev pub shown : Best → Value
+shown nothing = Absent
+shown (at i t v) = Present v
+
+-- the value of k at t
+abbrev pub valueAt : ℕ → ℕ → List Version → Value
+valueAt k t vs = shown (newest k t vs)
+
+-- a value that is not absent
+abbrev pub isPresent : Value → Bool
+isPresent Absent = false
+isPresent (Present v) = true
+
+-- there is a version of k later than s
+abbrev pub later : ℕ → ℕ → List Version → Bool
+later s k [] = false
+later s k (v ∷ older) = (eqb (v .key) k && ltb s (v .time)) || later s k older
+
+-- row i is the one that was found
+abbrev pub isRow : ℕ → Best → Bool
+isRow i nothing = false
+isRow i (at j t v) = eqb i j
+
+-- a checkpoint at T keeps row i of the whole: a version after T, or its key's newest at or before T
+abbrev pub stays : ℕ → List Version → ℕ → Version → Bool
+stays T whole i v = ltb T (v .time) || isRow i (newest (v .key) T whole)
+
+-- the versions of the whole that a checkpoint at T keeps, in order
+abbrev pub thin : ℕ → List Version → List Version → List Version
+thin T whole [] = []
+thin T whole (v ∷ older) = cond (stays T whole (length older) v) (v ∷ thin T whole older) (thin T whole older)
+
+-- what a checkpoint at T keeps
+abbrev pub keptFrom : ℕ → List Version → List Version
+keptFrom T vs = thin T vs vs
+
+-- the keys of the versions
+abbrev pub keysOf : List Version → List ℕ
+keysOf [] = []
+keysOf (v ∷ older) = v .key ∷ keysOf older
+
+-- the list at t: every key from 1 up that is not absent, once, rising, with its value
+abbrev pub listAt : List Version → ℕ → List Row
+listAt vs t = listed (λ k. valueAt k t vs) (keysOf vs)
