@@ -48,7 +48,7 @@ kept-columns T used opened lates rs running numbers h l =
     (λ r. rw (h .held (r .transaction), l .held (r .transaction))) T rs
     ∙ kept-sifted T rs
 
--- the first commit counts from low on
+-- last is at least low
 pub low-last : (low : ℕ) (rs : List Record) → low ≤ last low rs
 low-last low [] = omega arith
 low-last low (r ∷ rs) = split (isCommit r) (λ e. rw e (omega (arith, low-last low rs))) (λ e. rw e (low-last low rs))

@@ -3,6 +3,7 @@ use mathlib.Core.Path.{_≡_, sym, _∙_}
 use mathlib.Core.Bool.{Bool, not, _&&_}
 use mathlib.Core.List.{List}
 use Prim.Native.Nat.{ℕ}
+use lib.Dec.{ltb}
 use Rattle.rules.specs.declared.Record.{Record}
 use Rattle.rules.specs.Transactions.{of, runs}
 use Rattle.rules.specs.Times.{last, next}
@@ -27,6 +28,9 @@ trace-runs-unique t a b p q = p ∙ sym q
 module _ (rs : List Record) where
   pub last-unique : (low a b : ℕ) → a ≡ last low rs → b ≡ last low rs → a ≡ b
   last-unique low a b p q = p ∙ sym q
+
+  pub is-future-unique : (low t : ℕ) (a b : Bool) → a ≡ ltb (last low rs) t → b ≡ ltb (last low rs) t → a ≡ b
+  is-future-unique low t a b p q = p ∙ sym q
 
   pub next-unique : (floor a b : ℕ) → a ≡ next floor rs → b ≡ next floor rs → a ≡ b
   next-unique floor a b p q = p ∙ sym q

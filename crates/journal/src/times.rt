@@ -2,7 +2,9 @@
 ghost use mathlib.Core.Path.{_≡_};
 ghost use Prim.Native.Nat.{_*_, _≤_};
 ghost use lib.ListN.{length};
-ghost use Rattle.rules.specs.Kinds.{recordBytes};
+ghost use mathlib.Core.Bool.{_&&_};
+ghost use lib.Dec.{leb, ltb};
+ghost use Rattle.rules.specs.Kinds.{recordBytes, isCommit};
 ghost use Rattle.rules.specs.Times.{lastStep, aboveStep, last as lastIn, next as nextIn};
 ghost use Rattle.record.specs.Bytes.{newest};
 ghost use Rattle.journal.specs.Walks.{Above};
@@ -34,6 +36,31 @@ pub fn last(journal: &[u8], used: usize, low: u64) -> u64
         i += 1;
     }
     best
+}
+
+// Whether a record is a commit at or after a time.
+fn reaches(r: Record, t: u64) -> bool
+    ensures { λ b. ⌜ b ≡ (isCommit r && leb t (r .time)) ⌝ }
+{
+    if r.kind != Record::COMMIT {
+        return false;
+    }
+    t <= r.time
+}
+
+// Whether a time lies above last. The walk goes down from the newest record, since the latest commit tells most times.
+pub fn is_future(journal: &[u8], used: usize, low: u64, t: u64) -> bool
+    requires { ⌜ used * recordBytes ≤ length (now journal) ⌝ }
+    ensures { λ b. ⌜ b ≡ ltb (lastIn low (newest used (now (journal .entry)))) t ⌝ }
+{
+    let mut i = used;
+    while i > 0 {
+        i -= 1;
+        if reaches(record::read(journal, i), t) {
+            return false;
+        }
+    }
+    low < t
 }
 
 // One record more: one more than a begin's number counts. In 64 bits, so that the greatest number has a successor.

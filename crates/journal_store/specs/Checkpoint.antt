@@ -5,7 +5,7 @@ use mathlib.Core.List.{List, _++_}
 use Prim.Native.Nat.{ℕ, _*_, _<_, _≤_, min}
 use native.Mathlib.Nat.{min-le-left, min-le-right}
 use native.Mathlib.Omega.{arith}
-use lib.Dec.{eqb}
+use lib.Dec.{eqb, ltb}
 use lib.ListN.{length, drop}
 use borrow.Author.Tests.{lt-ltb, le-ltb, le-leb, lt-leb, eqb-true}
 use Rattle.rules.specs.declared.Value.the-variants.{Absent}
@@ -79,20 +79,20 @@ module _ (room t : ℕ) (s : Store) where
   pub checkpoint-old : t < s .low → told 4 Absent ≡ checkpointDecided room t s
   checkpoint-old a = say 4 (rw (lt-ltb t (s .low) a))
 
-  module _ (a : s .low ≤ t) (l : ℕ) (e : l ≡ lastOf s) where
-    pub checkpoint-future : l < t → told 5 Absent ≡ checkpointDecided room t s
-    checkpoint-future b = say 5 (rw (le-ltb t (s .low) a, ← e, lt-ltb l t b))
+  module _ (a : s .low ≤ t) (i : Bool) (e : i ≡ ltb (lastOf s) t) where
+    pub checkpoint-future : i ≡ true → told 5 Absent ≡ checkpointDecided room t s
+    checkpoint-future b = say 5 (rw (le-ltb t (s .low) a, sym e ∙ b))
 
-    module _ (b : t ≤ l) (d : Bool) (g : d ≡ held t (s .records)) where
+    module _ (b : i ≡ false) (d : Bool) (g : d ≡ held t (s .records)) where
       pub checkpoint-held : d ≡ true → told 9 Absent ≡ checkpointDecided room t s
-      checkpoint-held f = say 9 (rw (le-ltb t (s .low) a, ← e, le-ltb l t b, sym g ∙ f))
+      checkpoint-held f = say 9 (rw (le-ltb t (s .low) a, sym e ∙ b, sym g ∙ f))
 
-      module _ (f : d ≡ false) (n : ℕ) (i : n ≡ length (listOf t s)) where
+      module _ (f : d ≡ false) (n : ℕ) (q : n ≡ length (listOf t s)) where
         pub checkpoint-room : room < n → told 12 Absent ≡ checkpointDecided room t s
-        checkpoint-room h = say 12 (rw (le-ltb t (s .low) a, ← e, le-ltb l t b, sym g ∙ f, ← i, lt-leb n room h))
+        checkpoint-room h = say 12 (rw (le-ltb t (s .low) a, sym e ∙ b, sym g ∙ f, ← q, lt-leb n room h))
 
         pub checkpoint-done : n ≤ room → told 0 Absent ≡ checkpointDecided room t s
-        checkpoint-done h = say 0 (rw (le-ltb t (s .low) a, ← e, le-ltb l t b, sym g ∙ f, ← i, le-leb n room h))
+        checkpoint-done h = say 0 (rw (le-ltb t (s .low) a, sym e ∙ b, sym g ∙ f, ← q, le-leb n room h))
 
 module _ (t : ℕ) (h : Head) (keys values j : List ℕ) where
   -- a store of bad shape: refused, and nothing changes

@@ -4,7 +4,7 @@ use mathlib.Core.Bool.{Bool, true, false, cond, _&&_}
 use mathlib.Core.List.{List, _++_}
 use Prim.Native.Nat.{ℕ, _<_, _≤_}
 use native.Mathlib.Omega.{arith}
-use lib.Dec.{eqb, leb}
+use lib.Dec.{eqb, ltb}
 use lib.ListN.{length, drop}
 use borrow.Author.Tests.{lt-ltb, le-ltb, le-leb, lt-leb, eqb-true, eqb-false, leb-true}
 use Rattle.rules.specs.declared.Value.the-variants.{Present}
@@ -55,19 +55,19 @@ module _ (room t : ℕ) (s : Store) where
   pub list-old : t < s .low → told 4 (Present (length (listOf t s))) ≡ listDecided room t s
   list-old a = rw (lt-ltb t (s .low) a)
 
-  module _ (a : s .low ≤ t) (l : ℕ) (e : l ≡ lastOf s) where
-    pub list-future : l < t → told 5 (Present (length (listOf t s))) ≡ listDecided room t s
-    list-future b = rw (le-ltb t (s .low) a, ← e, lt-ltb l t b)
+  module _ (a : s .low ≤ t) (f : Bool) (e : f ≡ ltb (lastOf s) t) where
+    pub list-future : f ≡ true → told 5 (Present (length (listOf t s))) ≡ listDecided room t s
+    list-future b = rw (le-ltb t (s .low) a, sym e ∙ b)
 
-    module _ (b : t ≤ l) (n : ℕ) (g : n ≡ length (listOf t s)) where
+    module _ (b : f ≡ false) (n : ℕ) (g : n ≡ length (listOf t s)) where
       number : (m : ℕ) → listAnswer room t s ≡ m → told m (Present (length (listOf t s))) ≡ listDecided room t s
       number m q = sym (ap (λ (x : ℕ). told x (Present (length (listOf t s)))) q)
 
       pub list-room : room < n → told 12 (Present (length (listOf t s))) ≡ listDecided room t s
-      list-room h = number 12 (rw (le-ltb t (s .low) a, ← e, le-ltb l t b, ← g, lt-leb n room h))
+      list-room h = number 12 (rw (le-ltb t (s .low) a, sym e ∙ b, ← g, lt-leb n room h))
 
       pub list-rows : n ≤ room → accepted (Present n) ≡ listDecided room t s
-      list-rows h = ap (λ (x : ℕ). accepted (Present x)) g ∙ number 0 (rw (le-ltb t (s .low) a, ← e, le-ltb l t b, ← g, le-leb n room h))
+      list-rows h = ap (λ (x : ℕ). accepted (Present x)) g ∙ number 0 (rw (le-ltb t (s .low) a, sym e ∙ b, ← g, le-leb n room h))
 
 module _ (h : Head) (keys values j : List ℕ) (t : ℕ) (listed contents : List ℕ) where
   -- a bad shape: refused, and nothing changes

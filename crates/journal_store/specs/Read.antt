@@ -3,6 +3,7 @@ use mathlib.Core.Path.{_≡_, refl, sym, ap, _∙_}
 use mathlib.Core.Bool.{Bool, true, false, cond}
 use mathlib.Core.List.{List}
 use Prim.Native.Nat.{ℕ, _<_, _≤_}
+use lib.Dec.{ltb}
 use lib.ListN.{length}
 use borrow.Author.Tests.{lt-ltb, le-ltb, eq-eqb, ne-eqb}
 use Rattle.rules.specs.declared.Value.{Value}
@@ -11,9 +12,8 @@ use Rattle.rules.specs.Transactions.{runs}
 use Rattle.rules.specs.Values.{valueAt, readIn}
 use Rattle.rules.specs.Calls.{Store, lastOf, readRefusal, lookupRefusal}
 use Rattle.answer.specs.Reply.{Reply, accepted, told}
-use Rattle.values.specs.Pass.{Rows, Records, Lent}
 use Rattle.journal_store.specs.declared.Head.{Head}
-use Rattle.journal_store.specs.Shape.{isShaped, meaning, Shaped}
+use Rattle.journal_store.specs.Shape.{isShaped, meaning}
 
 -- what a store of good shape answers to a read of k in transaction n
 abbrev pub readDecided : ℕ → ℕ → Store → Reply
@@ -37,15 +37,6 @@ module _ (h : Head) (keys values j : List ℕ) (decided : Store → Reply) where
       → r ≡ shapedReply h keys values j decided
   reply-good r e d = rw e d
 
--- a good shape lends what values are read from
-pub lent : (h : Head) (keys values j : List ℕ) → Shaped h (length keys) (length values) (length j)
-    → Lent keys values (h .base .rows) j (h .journal .used)
-lent h keys values j s =
-    record {
-      base = record { in-keys = s .rows; in-values = rw (← s .paired) (s .rows) };
-      records = record { few = s .usedLimit; there = s .used };
-    }
-
 -- the ways out of a read
 module _ (n k : ℕ) (s : Store) (b : Bool) (e : b ≡ runs n (s .records)) where
   pub read-unknown : b ≡ false → told 2 (readIn (s .base) (s .records) n k) ≡ readDecided n k s
@@ -67,9 +58,9 @@ module _ (k t : ℕ) (s : Store) where
     pub lookup-old : t < s .low → told 4 (valueAt (s .base) (s .records) t k) ≡ lookupDecided k t s
     lookup-old a = rw (ne-eqb k 0 z, lt-ltb t (s .low) a)
 
-    module _ (a : s .low ≤ t) (l : ℕ) (e : l ≡ lastOf s) where
-      pub lookup-future : l < t → told 5 (valueAt (s .base) (s .records) t k) ≡ lookupDecided k t s
-      lookup-future b = rw (ne-eqb k 0 z, le-ltb t (s .low) a, ← e, lt-ltb l t b)
+    module _ (a : s .low ≤ t) (f : Bool) (e : f ≡ ltb (lastOf s) t) where
+      pub lookup-future : f ≡ true → told 5 (valueAt (s .base) (s .records) t k) ≡ lookupDecided k t s
+      lookup-future b = rw (ne-eqb k 0 z, le-ltb t (s .low) a, sym e ∙ b)
 
-      pub lookup-value : t ≤ l → (v : Value) → v ≡ valueAt (s .base) (s .records) t k → accepted v ≡ lookupDecided k t s
-      lookup-value b v g = rw (ne-eqb k 0 z, le-ltb t (s .low) a, ← e, le-ltb l t b, g)
+      pub lookup-value : f ≡ false → (v : Value) → v ≡ valueAt (s .base) (s .records) t k → accepted v ≡ lookupDecided k t s
+      lookup-value b v g = rw (ne-eqb k 0 z, le-ltb t (s .low) a, sym e ∙ b, g)

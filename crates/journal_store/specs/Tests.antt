@@ -2,6 +2,7 @@
 use mathlib.Core.Path.{_≡_, refl, sym, ap, _∙_}
 use mathlib.Core.Bool.{Bool, true, false}
 use Prim.Native.Nat.{ℕ, _+_, _<_, _≤_}
+use lib.Dec.{ltb}
 use lib.ListN.{length}
 use borrow.Author.Tests.{lt-ltb, le-ltb, le-leb, lt-leb, eq-eqb, ne-eqb}
 use Rattle.rules.specs.declared.Effect.{Effect}
@@ -21,18 +22,18 @@ module _ (room : ℕ) (s : Store) where
     pub begin-old : t < s .low → told 4 (gives (Begin t) s) ≡ decided (Begin t) room s
     begin-old a = say (Begin t) 4 (rw (lt-ltb t (s .low) a))
 
-    module _ (a : s .low ≤ t) (l : ℕ) (e : l ≡ lastOf s) where
-      pub begin-future : l < t → told 5 (gives (Begin t) s) ≡ decided (Begin t) room s
-      begin-future b = say (Begin t) 5 (rw (le-ltb t (s .low) a, ← e, lt-ltb l t b))
+    module _ (a : s .low ≤ t) (f : Bool) (e : f ≡ ltb (lastOf s) t) where
+      pub begin-future : f ≡ true → told 5 (gives (Begin t) s) ≡ decided (Begin t) room s
+      begin-future b = say (Begin t) 5 (rw (le-ltb t (s .low) a, sym e ∙ b))
 
-      module _ (b : t ≤ l) (r : ℕ) (f : r ≡ length (running (s .records))) where
+      module _ (b : f ≡ false) (r : ℕ) (m : r ≡ length (running (s .records))) where
         pub begin-many : 8 ≤ r → told 6 (gives (Begin t) s) ≡ decided (Begin t) room s
-        begin-many d = say (Begin t) 6 (rw (le-ltb t (s .low) a, ← e, le-ltb l t b, ← f, le-leb 8 r d))
+        begin-many d = say (Begin t) 6 (rw (le-ltb t (s .low) a, sym e ∙ b, ← m, le-leb 8 r d))
 
         module _ (d : r < 8) (n : ℕ) (g : n ≡ nextOf s) where
           pub begin-numbers : 4294967295 ≤ n → told 7 (gives (Begin t) s) ≡ decided (Begin t) room s
           begin-numbers h =
-              say (Begin t) 7 (rw (le-ltb t (s .low) a, ← e, le-ltb l t b, ← f, lt-leb 8 r d, ← g, le-leb 4294967295 n h))
+              say (Begin t) 7 (rw (le-ltb t (s .low) a, sym e ∙ b, ← m, lt-leb 8 r d, ← g, le-leb 4294967295 n h))
 
           module _ (h : n < 4294967295) (used : ℕ) (u : length (s .records) ≡ used) where
             pub begin-room : room < used + (2 + r) → told 12 (gives (Begin t) s) ≡ decided (Begin t) room s
@@ -40,9 +41,8 @@ module _ (room : ℕ) (s : Store) where
                 say (Begin t) 12
                 (rw (
                   le-ltb t (s .low) a,
-                  ← e,
-                  le-ltb l t b,
-                  ← f,
+                  sym e ∙ b,
+                  ← m,
                   lt-leb 8 r d,
                   ← g,
                   lt-leb 4294967295 n h,
@@ -55,9 +55,8 @@ module _ (room : ℕ) (s : Store) where
                 say (Begin t) 0
                 (rw (
                   le-ltb t (s .low) a,
-                  ← e,
-                  le-ltb l t b,
-                  ← f,
+                  sym e ∙ b,
+                  ← m,
                   lt-leb 8 r d,
                   ← g,
                   lt-leb 4294967295 n h,

@@ -36,7 +36,7 @@ fn decide(h: Head, keys: &[u32], values: &[u32], journal: &[u8], t: u64) -> Begu
     if t < h.low {
         return Begun::Refused(Refusal::TooOld);
     }
-    if journal::times::last(journal, used, h.low) < t {
+    if journal::times::is_future(journal, used, h.low, t) {
         return Begun::Refused(Refusal::Future);
     }
     let running = journal::transactions::count_running(journal, used);

@@ -37,7 +37,7 @@ fn decide(h: Head, keys: &[u32], values: &[u32], journal: &[u8], t: u64) -> Done
     if t < h.low {
         return Done::Refused(Refusal::TooOld);
     }
-    if journal::times::last(journal, used, h.low) < t {
+    if journal::times::is_future(journal, used, h.low, t) {
         return Done::Refused(Refusal::Future);
     }
     if journal::transactions::held(journal, used, t) {

@@ -28,7 +28,7 @@ fn decide(h: Head, keys: &[u32], values: &[u32], journal: &[u8], t: u64, room: u
     if t < h.low {
         return Listed::Refused(Refusal::TooOld);
     }
-    if journal::times::last(journal, used, h.low) < t {
+    if journal::times::is_future(journal, used, h.low, t) {
         return Listed::Refused(Refusal::Future);
     }
     let count = values::list::count_listed(keys, values, rows, journal, used, t);

@@ -22,7 +22,7 @@ fn decide(h: Head, keys: &[u32], values: &[u32], journal: &[u8], k: u32, t: u64)
     if t < low {
         return Got::Refused(Refusal::TooOld);
     }
-    if journal::times::last(journal, used, low) < t {
+    if journal::times::is_future(journal, used, low, t) {
         return Got::Refused(Refusal::Future);
     }
     Got::Value(values::value::value_at(keys, values, rows, journal, used, k, t))

@@ -17,15 +17,15 @@ returns c =
     let a = c .before .before .before .before .before .args in
     begin-old (roomOf (length (now (a .journal)))) (meaning (a .h) (now (a .keys)) (now (a .values)) (now (a .journal))) (a .t) (c .if1 .taken)
 
-last-requires : tie.Need-last-requires
-last-requires c κs = search needs
+is-future-requires : tie.Need-is-future-requires
+is-future-requires c κs = search needs
 
 returns-2 : tie.Need-returns-2
 returns-2 c =
     let la = c .before in
     let e1 = la .before in
     let a = e1 .before .before .before .before .before .args in
-    begin-future (roomOf (length (now (a .journal)))) (meaning (a .h) (now (a .keys)) (now (a .values)) (now (a .journal))) (a .t) (e1 .if1 .left) _ (la .last .ensures) (c .if2 .taken)
+    begin-future (roomOf (length (now (a .journal)))) (meaning (a .h) (now (a .keys)) (now (a .values)) (now (a .journal))) (a .t) (e1 .if1 .left) _ (la .is-future .ensures) (c .if2 .taken)
 
 count-running-requires : tie.Need-count-running-requires
 count-running-requires c κs = search needs
@@ -37,7 +37,7 @@ returns-3 c =
     let la = e2 .before in
     let e1 = la .before in
     let a = e1 .before .before .before .before .before .args in
-    begin-many (roomOf (length (now (a .journal)))) (meaning (a .h) (now (a .keys)) (now (a .values)) (now (a .journal))) (a .t) (e1 .if1 .left) _ (la .last .ensures) (e2 .if2 .left) _
+    begin-many (roomOf (length (now (a .journal)))) (meaning (a .h) (now (a .keys)) (now (a .values)) (now (a .journal))) (a .t) (e1 .if1 .left) _ (la .is-future .ensures) (e2 .if2 .left) _
     (cr .count-running .ensures .count) (c .if3 .taken)
 
 next-requires : tie.Need-next-requires
@@ -52,7 +52,7 @@ returns-4 c =
     let la = e2 .before in
     let e1 = la .before in
     let a = e1 .before .before .before .before .before .args in
-    begin-numbers (roomOf (length (now (a .journal)))) (meaning (a .h) (now (a .keys)) (now (a .values)) (now (a .journal))) (a .t) (e1 .if1 .left) _ (la .last .ensures) (e2 .if2 .left) _
+    begin-numbers (roomOf (length (now (a .journal)))) (meaning (a .h) (now (a .keys)) (now (a .values)) (now (a .journal))) (a .t) (e1 .if1 .left) _ (la .is-future .ensures) (e2 .if2 .left) _
     (cr .count-running .ensures .count) (e3 .if3 .left) _ (nx .next .ensures) (c .if4 .taken)
 
 room-requires : tie.Need-room-requires
@@ -75,7 +75,7 @@ returns-5 c =
     let la = e2 .before in
     let e1 = la .before in
     let a = e1 .before .before .before .before .before .args in
-    begin-room (roomOf (length (now (a .journal)))) (meaning (a .h) (now (a .keys)) (now (a .values)) (now (a .journal))) (a .t) (e1 .if1 .left) _ (la .last .ensures) (e2 .if2 .left) _
+    begin-room (roomOf (length (now (a .journal)))) (meaning (a .h) (now (a .keys)) (now (a .values)) (now (a .journal))) (a .t) (e1 .if1 .left) _ (la .is-future .ensures) (e2 .if2 .left) _
     (cr .count-running .ensures .count) (e3 .if3 .left) _ (nx .next .ensures) (e4 .if4 .left) (a .h .journal .used) (length-newest (a .h .journal .used) (now (a .journal)))
     (rw (rm .room .ensures) at (c .if5 .taken))
 
@@ -92,7 +92,7 @@ returns-6 c =
     let a = e1 .before .before .before .before .before .args in
     let s = meaning (a .h) (now (a .keys)) (now (a .values)) (now (a .journal)) in
     ap (λ (n : ℕ). accepted (Present n)) (nx .next .ensures)
-    ∙ begin-begun (roomOf (length (now (a .journal)))) s (a .t) (e1 .if1 .left) _ (la .last .ensures) (e2 .if2 .left) _
+    ∙ begin-begun (roomOf (length (now (a .journal)))) s (a .t) (e1 .if1 .left) _ (la .is-future .ensures) (e2 .if2 .left) _
     (cr .count-running .ensures .count) (e3 .if3 .left) _ (nx .next .ensures) (e4 .if4 .left) (a .h .journal .used) (length-newest (a .h .journal .used) (now (a .journal)))
     (rw (rm .room .ensures) at (c .if5 .left))
 
@@ -101,7 +101,7 @@ decide-spec =
     tie.close
     (tie.spec
     returns
-    last-requires
+    is-future-requires
     returns-2
     count-running-requires
     returns-3

@@ -12,15 +12,15 @@ returns c =
     let a = c .before .before .before .before .before .args in
     checkpoint-old (rowRoom (length (now (a .keys)))) (a .t) (meaning (a .h) (now (a .keys)) (now (a .values)) (now (a .journal))) (c .if1 .taken)
 
-last-requires : tie.Need-last-requires
-last-requires c κs = search needs
+is-future-requires : tie.Need-is-future-requires
+is-future-requires c κs = search needs
 
 returns-2 : tie.Need-returns-2
 returns-2 c =
     let la = c .before in
     let e1 = la .before in
     let a = e1 .before .before .before .before .before .args in
-    checkpoint-future (rowRoom (length (now (a .keys)))) (a .t) (meaning (a .h) (now (a .keys)) (now (a .values)) (now (a .journal))) (e1 .if1 .left) _ (la .last .ensures) (c .if2 .taken)
+    checkpoint-future (rowRoom (length (now (a .keys)))) (a .t) (meaning (a .h) (now (a .keys)) (now (a .values)) (now (a .journal))) (e1 .if1 .left) _ (la .is-future .ensures) (c .if2 .taken)
 
 held-requires : tie.Need-held-requires
 held-requires c κs = search needs
@@ -32,7 +32,7 @@ returns-3 c =
     let la = e2 .before in
     let e1 = la .before in
     let a = e1 .before .before .before .before .before .args in
-    checkpoint-held (rowRoom (length (now (a .keys)))) (a .t) (meaning (a .h) (now (a .keys)) (now (a .values)) (now (a .journal))) (e1 .if1 .left) _ (la .last .ensures) (e2 .if2 .left) _ (he .held .ensures)
+    checkpoint-held (rowRoom (length (now (a .keys)))) (a .t) (meaning (a .h) (now (a .keys)) (now (a .values)) (now (a .journal))) (e1 .if1 .left) _ (la .is-future .ensures) (e2 .if2 .left) _ (he .held .ensures)
     (c .if3 .taken)
 
 count-listed-requires : tie.Need-count-listed-requires
@@ -51,7 +51,7 @@ returns-4 c =
     let la = e2 .before in
     let e1 = la .before in
     let a = e1 .before .before .before .before .before .args in
-    checkpoint-room (rowRoom (length (now (a .keys)))) (a .t) (meaning (a .h) (now (a .keys)) (now (a .values)) (now (a .journal))) (e1 .if1 .left) _ (la .last .ensures) (e2 .if2 .left) _ (he .held .ensures)
+    checkpoint-room (rowRoom (length (now (a .keys)))) (a .t) (meaning (a .h) (now (a .keys)) (now (a .values)) (now (a .journal))) (e1 .if1 .left) _ (la .is-future .ensures) (e2 .if2 .left) _ (he .held .ensures)
     (e3 .if3 .left) _ (co .count-listed .ensures) (rw (ro .row-room .ensures) at (c .if4 .taken))
 
 returns-5 : tie.Need-returns-5
@@ -64,7 +64,7 @@ returns-5 c =
     let la = e2 .before in
     let e1 = la .before in
     let a = e1 .before .before .before .before .before .args in
-    checkpoint-done (rowRoom (length (now (a .keys)))) (a .t) (meaning (a .h) (now (a .keys)) (now (a .values)) (now (a .journal))) (e1 .if1 .left) _ (la .last .ensures) (e2 .if2 .left) _ (he .held .ensures)
+    checkpoint-done (rowRoom (length (now (a .keys)))) (a .t) (meaning (a .h) (now (a .keys)) (now (a .values)) (now (a .journal))) (e1 .if1 .left) _ (la .is-future .ensures) (e2 .if2 .left) _ (he .held .ensures)
     (e3 .if3 .left) _ (co .count-listed .ensures) (rw (ro .row-room .ensures) at (c .if4 .left))
 
 pub decide-spec : {M : Type 1} → statement M
@@ -72,7 +72,7 @@ decide-spec =
     tie.close
     (tie.spec
     returns
-    last-requires
+    is-future-requires
     returns-2
     held-requires
     returns-3

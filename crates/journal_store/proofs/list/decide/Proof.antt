@@ -11,15 +11,15 @@ returns c =
     let a = c .before .before .before .before .before .args in
     list-old (a .room) (a .t) (meaning (a .h) (now (a .keys)) (now (a .values)) (now (a .journal))) (c .if1 .taken)
 
-last-requires : tie.Need-last-requires
-last-requires c κs = search needs
+is-future-requires : tie.Need-is-future-requires
+is-future-requires c κs = search needs
 
 returns-2 : tie.Need-returns-2
 returns-2 c =
     let la = c .before in
     let e1 = la .before in
     let a = e1 .before .before .before .before .before .args in
-    list-future (a .room) (a .t) (meaning (a .h) (now (a .keys)) (now (a .values)) (now (a .journal))) (e1 .if1 .left) _ (la .last .ensures) (c .if2 .taken)
+    list-future (a .room) (a .t) (meaning (a .h) (now (a .keys)) (now (a .values)) (now (a .journal))) (e1 .if1 .left) _ (la .is-future .ensures) (c .if2 .taken)
 
 count-listed-requires : tie.Need-count-listed-requires
 count-listed-requires c κs = search needs
@@ -31,7 +31,7 @@ returns-3 c =
     let la = e2 .before in
     let e1 = la .before in
     let a = e1 .before .before .before .before .before .args in
-    list-room (a .room) (a .t) (meaning (a .h) (now (a .keys)) (now (a .values)) (now (a .journal))) (e1 .if1 .left) _ (la .last .ensures) (e2 .if2 .left) _
+    list-room (a .room) (a .t) (meaning (a .h) (now (a .keys)) (now (a .values)) (now (a .journal))) (e1 .if1 .left) _ (la .is-future .ensures) (e2 .if2 .left) _
     (co .count-listed .ensures) (c .if3 .taken)
 
 returns-4 : tie.Need-returns-4
@@ -41,9 +41,9 @@ returns-4 c =
     let la = e2 .before in
     let e1 = la .before in
     let a = e1 .before .before .before .before .before .args in
-    list-rows (a .room) (a .t) (meaning (a .h) (now (a .keys)) (now (a .values)) (now (a .journal))) (e1 .if1 .left) _ (la .last .ensures) (e2 .if2 .left) _
+    list-rows (a .room) (a .t) (meaning (a .h) (now (a .keys)) (now (a .values)) (now (a .journal))) (e1 .if1 .left) _ (la .is-future .ensures) (e2 .if2 .left) _
     (co .count-listed .ensures) (c .if3 .left)
 
 pub decide-spec : {M : Type 1} → statement M
 decide-spec =
-    tie.close (tie.spec returns last-requires returns-2 count-listed-requires returns-3 returns-4)
+    tie.close (tie.spec returns is-future-requires returns-2 count-listed-requires returns-3 returns-4)

@@ -17,8 +17,8 @@ returns-2 c =
     let a = e1 .before .before .before .before .args in
     lookup-old (a .k) (a .t) (meaning (a .h) (now (a .keys)) (now (a .values)) (now (a .journal))) (e1 .if1 .left) (c .if2 .taken)
 
-last-requires : tie.Need-last-requires
-last-requires c κs = search needs
+is-future-requires : tie.Need-is-future-requires
+is-future-requires c κs = search needs
 
 returns-3 : tie.Need-returns-3
 returns-3 c =
@@ -26,7 +26,7 @@ returns-3 c =
     let e2 = la .before in
     let e1 = e2 .before in
     let a = e1 .before .before .before .before .args in
-    lookup-future (a .k) (a .t) (meaning (a .h) (now (a .keys)) (now (a .values)) (now (a .journal))) (e1 .if1 .left) (e2 .if2 .left) _ (la .last .ensures)
+    lookup-future (a .k) (a .t) (meaning (a .h) (now (a .keys)) (now (a .values)) (now (a .journal))) (e1 .if1 .left) (e2 .if2 .left) _ (la .is-future .ensures)
     (c .if3 .taken)
 
 value-at-requires : tie.Need-value-at-requires
@@ -39,9 +39,9 @@ returns-4 c =
     let e2 = la .before in
     let e1 = e2 .before in
     let a = e1 .before .before .before .before .args in
-    lookup-value (a .k) (a .t) (meaning (a .h) (now (a .keys)) (now (a .values)) (now (a .journal))) (e1 .if1 .left) (e2 .if2 .left) _ (la .last .ensures)
+    lookup-value (a .k) (a .t) (meaning (a .h) (now (a .keys)) (now (a .values)) (now (a .journal))) (e1 .if1 .left) (e2 .if2 .left) _ (la .is-future .ensures)
     (e3 .if3 .left) _ (c .value-at .ensures)
 
 pub decide-spec : {M : Type 1} → statement M
 decide-spec =
-    tie.close (tie.spec returns returns-2 last-requires returns-3 value-at-requires returns-4)
+    tie.close (tie.spec returns returns-2 is-future-requires returns-3 value-at-requires returns-4)

@@ -1,0 +1,65 @@
+-- `map_store::commit::is_first` meets its contract: a row is the first with its key exactly if no row before it is found. Assumes nothing.
+use mathlib.Core.Path.{_≡_, sym, _∙_}
+use mathlib.Core.Bool.{true, false, not}
+use Prim.Native.Nat.{ℕ, _<_}
+use lib.ListN.{getD, take}
+use Rattle.column.specs.declared.Found.{Found}
+use Rattle.column.specs.declared.Found.the-variants.{At, Nothing}
+use Rattle.column.specs.Column.{firstRow}
+use Rattle.slot.specs.declared.Slot.{Slot}
+use Rattle.slot.specs.Formed.{Rowed}
+use Rattle.slot.specs.Places.{hasKey, rowsOf}
+use Rattle.map_store.specs.RowLaws.{has-before}
+use borrow.Author.Needs.{needs}
+use Rattle.map_store.proofs.commit.is_first.Statement.{statement}
+use Rattle.map_store.proofs.commit.is_first.Tie as tie
+
+module _ (s : Slot) (w : Rowed s) (i : ℕ) (l : i < s .count) (f : Found) (e : f ≡ firstRow (getD (s .keys) i 0) (take i (s .keys))) where
+  again : (j : ℕ) → f ≡ At j → false ≡ not (hasKey (getD (s .keys) i 0) (rowsOf (s .keys) (s .values) i))
+  again j g = rw (has-before s w i (getD (s .keys) i 0) l, sym e ∙ g)
+
+  first : f ≡ Nothing → true ≡ not (hasKey (getD (s .keys) i 0) (rowsOf (s .keys) (s .values) i))
+  first g = rw (has-before s w i (getD (s .keys) i 0) l, sym e ∙ g)
+
+mul-k : tie.Need-mul-k
+mul-k c = search needs
+
+array-read-k : tie.Need-array-read-k
+array-read-k c = search needs
+
+slice-aggregate-find : tie.Need-slice-aggregate-find
+slice-aggregate-find c = search needs
+
+find-requires : tie.Need-find-requires
+find-requires c κs = search needs
+
+enum-told : tie.Need-enum-told
+enum-told c = search needs
+
+enum-told-2 : tie.Need-enum-told-2
+enum-told-2 c = search needs
+
+returns : tie.Need-returns
+returns c =
+    let fd = c .before .before in
+    let st = fd .before .before .before in
+    again (st .args .s) (st .pre .0) (st .args .i) (st .pre .1) _ (fd .find .ensures) _ (c .enum-told .given .1)
+
+returns-2 : tie.Need-returns-2
+returns-2 c =
+    let fd = c .before .before in
+    let st = fd .before .before .before in
+    first (st .args .s) (st .pre .0) (st .args .i) (st .pre .1) _ (fd .find .ensures) (c .enum-told2 .given .1)
+
+pub is-first-spec : {M : Type 1} → statement M
+is-first-spec =
+    tie.close
+    (tie.spec
+    mul-k
+    array-read-k
+    slice-aggregate-find
+    find-requires
+    enum-told
+    enum-told-2
+    returns
+    returns-2)

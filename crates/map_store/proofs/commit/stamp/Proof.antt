@@ -1,0 +1,178 @@
+-- `map_store::commit::stamp` meets its contract: the loop's invariant is that the rows that count among the first i are written; the measure is how many rows are left. Assumes nothing.
+use mathlib.Core.Path.{_≡_, refl, sym, _∙_}
+use mathlib.Core.Bool.{Bool, true, false}
+use mathlib.Core.List.{List}
+use mathlib.Core.Logic.{⊎-elim}
+use Prim.Native.Nat.{ℕ, _+_, _-_, _≤_, _<_}
+use lib.ListN.{length, getD}
+use Rattle.slot.specs.Places.{rowsOf}
+use Rattle.versions.specs.Columns.{Lent, Appended}
+use Rattle.map_store.specs.Meaning.{firsts}
+use Rattle.map_store.specs.Contracts.{Stamped}
+use Rattle.map_store.specs.RowLaws.{isFirst, first-more, first-same, firsts-among, length-written, stamped-more}
+use borrow.Author.Needs.{needs}
+use native.Mathlib.Omega.{arith}
+use denote.Ref.{now}
+use Rattle.map_store.proofs.commit.stamp.Statement.{statement}
+use Rattle.map_store.proofs.commit.stamp.Tie as tie
+
+module _ (sk sv : List ℕ) (t used : ℕ) (ks ts vs : List ℕ) (i : ℕ) (ks₁ ts₁ vs₁ : List ℕ) (at : ℕ)
+    (w : Stamped t used (firsts (rowsOf sk sv i)) ks ts vs ks₁ ts₁ vs₁ at) (b : Bool) (e : b ≡ isFirst sk sv i) where
+  -- a row that counts has a lent row
+  room : (n : ℕ) → i < n → b ≡ true → Lent (used + length (firsts (rowsOf sk sv n))) ks ts vs → Lent (at + 1) ks₁ ts₁ vs₁
+  room n l f p =
+      let m : length (firsts (rowsOf sk sv (i + 1))) ≤ length (firsts (rowsOf sk sv n)) = firsts-among sk sv (i + 1) n (omega arith) in
+      let z = first-more sk sv i (sym e ∙ f) in
+      let y : length (firsts (rowsOf sk sv (i + 1))) ≡ length (firsts (rowsOf sk sv i)) + 1 = rw z (omega arith) in
+      record {
+        keys = rw (w .keys, length-written used (λ r. r .key) (firsts (rowsOf sk sv i)) ks) (omega (arith, w .count, p .keys));
+        times = rw (w .times, length-written used (λ r. t) (firsts (rowsOf sk sv i)) ts) (omega (arith, w .count, p .times));
+        values = rw (w .values, length-written used (λ r. r .value) (firsts (rowsOf sk sv i)) vs) (omega (arith, w .count, p .values));
+      }
+
+  more : b ≡ true → (ks₂ ts₂ vs₂ : List ℕ) → Appended at (getD sk i 0) t (getD sv i 0) ks₁ ts₁ vs₁ ks₂ ts₂ vs₂
+      → Stamped t used (firsts (rowsOf sk sv (i + 1))) ks ts vs ks₂ ts₂ vs₂ (at + 1)
+  more f ks₂ ts₂ vs₂ p =
+      rw (first-more sk sv i (sym e ∙ f))
+      (stamped-more t used (firsts (rowsOf sk sv i)) (record { key = getD sk i 0; value = getD sv i 0 }) ks ts vs ks₁ ts₁ vs₁ ks₂ ts₂ vs₂ at w p)
+
+  same : b ≡ false → Stamped t used (firsts (rowsOf sk sv (i + 1))) ks ts vs ks₁ ts₁ vs₁ at
+  same f = rw (first-same sk sv i (sym e ∙ f)) w
+
+abbrev Inv-loop : tie.InvT-loop
+Inv-loop s keys₀ times₀ values₀ used t written running rows at₀ i₀ keys times values at i =
+    (i ≤ rows)
+    × (at ≤ used + i)
+    × Stamped t used (firsts (rowsOf (s .keys) (s .values) i)) keys₀ times₀ values₀ keys times values at
+
+abbrev μ-loop : tie.MeasureT-loop
+μ-loop s keys₀ times₀ values₀ used t written running rows at₀ i₀ keys times values at i = rows - i
+
+loop-holds : tie.Need-loop-holds Inv-loop μ-loop
+loop-holds c = (omega arith, omega arith, record { count = omega arith; keys = refl; times = refl; values = refl })
+
+is-first-requires : tie.Need-is-first-requires Inv-loop μ-loop
+is-first-requires c κs =
+    let st = c .before .before .before .before .before .before .before in
+    (st .pre .0, c .loop-test .taken)
+
+mul-append : tie.Need-mul-append Inv-loop μ-loop
+mul-append c =
+    let lt = c .before .before .before .before .before in
+    let st = lt .before .before .before .before .before .before .before in
+    omega (arith, lt .loop-test .taken, st .pre .0 .count)
+
+array-read-append : tie.Need-array-read-append Inv-loop μ-loop
+array-read-append c =
+    let lt = c .before .before .before .before .before in
+    let st = lt .before .before .before .before .before .before .before in
+    omega (arith, lt .loop-test .taken, st .pre .0 .count)
+
+mul-append-2 : tie.Need-mul-append-2 Inv-loop μ-loop
+mul-append-2 c =
+    let lt = c .before .before .before .before .before in
+    let st = lt .before .before .before .before .before .before .before in
+    omega (arith, lt .loop-test .taken, st .pre .0 .count)
+
+array-read-append-2 : tie.Need-array-read-append-2 Inv-loop μ-loop
+array-read-append-2 c =
+    let lt = c .before .before .before .before .before in
+    let st = lt .before .before .before .before .before .before .before in
+    omega (arith, lt .loop-test .taken, st .pre .0 .count)
+
+append-requires : tie.Need-append-requires Inv-loop μ-loop
+append-requires c κs =
+    let th = c .before .before .before in
+    let fi = th .before in
+    let lt = fi .before in
+    let lp = lt .before in
+    let st = lp .before .before .before .before .before .before in
+    let a = st .args in
+    room (a .s .keys) (a .s .values) (a .t) (a .used) (now (a .keys)) (now (a .times)) (now (a .values)) (lp .loop .i) _ _ _ _ (lp .loop .inv .2)
+    _ (fi .is-first .ensures) (a .s .count) (lt .loop-test .taken) (th .if1 .taken) (st .pre .2)
+
+add-at : tie.Need-add-at Inv-loop μ-loop
+add-at c =
+    let lt = c .before .before .before .before .before .before .before .before .before .before .before .before in
+    let lp = lt .before in
+    let st = lp .before .before .before .before .before .before in
+    omega (arith, lp .loop .inv .1, lt .loop-test .taken, st .pre .0 .count, st .pre .1)
+
+add-i : tie.Need-add-i Inv-loop μ-loop
+add-i c =
+    let lt = c .before .before in
+    let st = lt .before .before .before .before .before .before .before in
+    omega (arith, lt .loop-test .taken, st .pre .0 .count)
+
+loop-less : tie.Need-loop-less Inv-loop μ-loop
+loop-less c = search needs
+
+loop-again : tie.Need-loop-again Inv-loop μ-loop
+loop-again c =
+    let fi = c .before in
+    let lp = fi .before .before in
+    let a = lp .before .before .before .before .before .before .args in
+    let l = lp .loop in
+    ⊎-elim
+    (λ w. (
+      omega arith,
+      omega (arith, l .inv .1, w .14),
+      rw (w .11, w .12, w .13, w .14)
+          (more (a .s .keys) (a .s .values) (a .t) (a .used) (now (a .keys)) (now (a .times)) (now (a .values)) (l .i) _ _ _ _ (l .inv .2)
+          _ (fi .is-first .ensures) (w .0 .taken) _ _ _ (w .4 .ensures)),
+    ))
+    (λ w. (
+      omega arith,
+      omega (arith, l .inv .1, w .4),
+      rw (w .1, w .2, w .3, w .4)
+          (same (a .s .keys) (a .s .values) (a .t) (a .used) (now (a .keys)) (now (a .times)) (now (a .values)) (l .i) _ _ _ _ (l .inv .2)
+          _ (fi .is-first .ensures) (w .0 .left)),
+    ))
+    (c .if1 .came)
+
+same-length : tie.Need-same-length Inv-loop μ-loop
+same-length c =
+    let lp = c .before in
+    let a = lp .before .before .before .before .before .before .args in
+    rw (lp .loop .inv .2 .keys) (length-written (a .used) (λ r. r .key) (firsts (rowsOf (a .s .keys) (a .s .values) (lp .loop .i))) (now (a .keys)))
+
+same-length-2 : tie.Need-same-length-2 Inv-loop μ-loop
+same-length-2 c =
+    let lp = c .before in
+    let a = lp .before .before .before .before .before .before .args in
+    rw (lp .loop .inv .2 .times) (length-written (a .used) (λ r. a .t) (firsts (rowsOf (a .s .keys) (a .s .values) (lp .loop .i))) (now (a .times)))
+
+same-length-3 : tie.Need-same-length-3 Inv-loop μ-loop
+same-length-3 c =
+    let lp = c .before in
+    let a = lp .before .before .before .before .before .before .args in
+    rw (lp .loop .inv .2 .values) (length-written (a .used) (λ r. r .value) (firsts (rowsOf (a .s .keys) (a .s .values) (lp .loop .i))) (now (a .values)))
+
+returns : tie.Need-returns Inv-loop μ-loop
+returns c =
+    let lp = c .before in
+    let a = lp .before .before .before .before .before .before .args in
+    let e : lp .loop .i ≡ a .s .count = omega arith in
+    rw e at (lp .loop .inv .2)
+
+pub stamp-spec : {M : Type 1} → statement M
+stamp-spec =
+    tie.close
+    (tie.spec
+    Inv-loop
+    μ-loop
+    loop-holds
+    is-first-requires
+    mul-append
+    array-read-append
+    mul-append-2
+    array-read-append-2
+    append-requires
+    add-at
+    add-i
+    loop-less
+    loop-again
+    same-length
+    same-length-2
+    same-length-3
+    returns)

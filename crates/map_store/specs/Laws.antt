@@ -1,0 +1,195 @@
+-- How a call's parts make its contract: what was decided on the meaning, then done to the cells if it was accepted. Assumes nothing.
+use mathlib.Core.Path.{_≡_, refl, sym, ap, _∙_}
+use mathlib.Core.Bool.{Bool, true, false, cond}
+use mathlib.Core.List.{List}
+use Prim.Native.Nat.{ℕ, _+_, _<_, _≤_}
+use native.Mathlib.Nat.{min-le-right}
+use native.Mathlib.Omega.{arith}
+use lib.Dec.{eqb}
+use lib.ListN.{length}
+use borrow.Author.Tests.{eqb-true}
+use Rattle.rules.specs.declared.Value.{Value}
+use Rattle.rules.specs.declared.Value.the-variants.{Absent, Present}
+use Rattle.rules.specs.Calls.{Call, Begin, Commit}
+use Rattle.answer.specs.declared.Refusal.the-variants.{BadShape}
+use Rattle.answer.specs.Reply.{Reply, refused, told, after}
+use Rattle.answer.specs.Laws.{after-refused}
+use Rattle.column.specs.declared.Found.{Found}
+use Rattle.column.specs.declared.Found.the-variants.{At, Nothing}
+use Rattle.slot.specs.declared.Slots.{Slots}
+use Rattle.slot.specs.Slots.{slotAt, slotOf, hasNumber}
+use Rattle.slot.specs.Formed.{Formed, Rowed}
+use Rattle.slot.specs.Laws.{first-slot}
+use Rattle.slot.specs.Places.{free, placeOf, placeIn, placesOf, takenBy}
+use Rattle.slot.specs.PlaceLaws.{place-slot}
+use Rattle.versions.specs.Versions.{versionsOf, listAt}
+use Rattle.versions.specs.Columns.{Lent, Room}
+use Rattle.versions.specs.Laws.{length-versions}
+use Rattle.map_store.specs.declared.MapHead.{MapHead}
+use Rattle.map_store.specs.Meaning.{MapStore, mapAnswer, gives, listRefusal, listAnswer, checkpointRefusal}
+use Rattle.map_store.specs.Shape.{isShaped, Shaped, roomOf, meaning}
+use Rattle.map_store.specs.Heads.{headAfter, rowsIn}
+use Rattle.map_store.specs.Contracts.{shapedNumber, number, decided, Answered, Committed, Put, listNumber, ListedAt, Written, checkpointNumber, Checkpointed, Thinned}
+use Rattle.map_store.specs.Tests.{say, fitting, begin-numbered, commit-fits}
+
+-- the slot that was found is the place of the transaction, and its rows are in order
+module _ (h : Slots) (n : ℕ) (f : Found) (e : f ≡ slotOf h n) where
+  pub place-none : f ≡ Nothing → placeOf n (placesOf h) ≡ free
+  place-none g = place-slot h n ∙ ap (placeIn h) (sym e ∙ g)
+
+  module _ (i : ℕ) (g : f ≡ At i) where
+    pub place-found : placeOf n (placesOf h) ≡ takenBy (slotAt h i)
+    place-found = place-slot h n ∙ ap (placeIn h) (sym e ∙ g)
+
+    pub rowed-found : Formed h → Rowed (slotAt h i)
+    rowed-found w = w .rowed i (first-slot (hasNumber n) h (sym e ∙ g) .occupied)
+
+-- lent rows of a good shape
+pub lent : (h : MapHead) (ks ts vs : List ℕ) → Shaped h (length ks) (length ts) (length vs) → Lent (h .used) ks ts vs
+lent h ks ts vs w =
+    record { keys = w .rows; times = omega (arith, w .rows, w .times); values = omega (arith, w .rows, w .values) }
+
+module _ (h : MapHead) (ks ts vs : List ℕ) (f : MapStore → ℕ) where
+  pub number-bad : isShaped h (length ks) (length ts) (length vs) ≡ false → shapedNumber h ks ts vs f ≡ 1
+  number-bad e = ap (λ (b : Bool). cond b (f (meaning h ks ts vs)) 1) e
+
+  pub number-good : isShaped h (length ks) (length ts) (length vs) ≡ true → shapedNumber h ks ts vs f ≡ f (meaning h ks ts vs)
+  number-good e = ap (λ (b : Bool). cond b (f (meaning h ks ts vs)) 1) e
+
+-- the number on the cells is that on the meaning, for which a reply was decided
+module _ (cells means : ℕ) (v : Value) (e : cells ≡ means) (a : Reply) (d : a ≡ told means v) where
+  pub replied : a ≡ told cells v
+  replied = d ∙ say means cells v e
+
+  module _ (accepted : Bool) (y : accepted ≡ eqb (a .number) 0) where
+    pub is-accepted : accepted ≡ true → means ≡ 0
+    is-accepted f = eqb-true means 0 (sym (ap (λ (r : Reply). eqb (r .number) 0) d) ∙ sym y ∙ f)
+
+    pub changed : {A : Type 0} (new old x : A) → x ≡ cond accepted new old → x ≡ after cells new old
+    changed new old x p =
+        p ∙ ap (λ (b : Bool). cond b new old) (y ∙ ap (λ (r : Reply). eqb (r .number) 0) d ∙ ap (λ (n : ℕ). eqb n 0) (sym e))
+
+module _ (c : Call) (h : MapHead) (ks ts vs : List ℕ) where
+  -- a store of bad shape: refused, and nothing changes
+  pub bad-shape : isShaped h (length ks) (length ts) (length vs) ≡ false → Answered c h ks ts vs (refused BadShape) h
+  bad-shape e =
+      let q = number-bad h ks ts vs (mapAnswer (roomOf (length ks)) c) e in
+      record {
+        reply = say 1 (number c h ks ts vs) (gives c (meaning h ks ts vs)) q;
+        headed = after-refused BadShape (number c h ks ts vs) (headAfter c h (versionsOf (h .used) ks ts vs)) h q;
+      }
+
+  module _ (shaped : isShaped h (length ks) (length ts) (length vs) ≡ true) (a : Reply)
+      (d : a ≡ decided c (roomOf (length ks)) (meaning h ks ts vs)) (accepted : Bool) (y : accepted ≡ eqb (a .number) 0) where
+    -- what was decided and done is what the call answers
+    pub answered : (head : MapHead) → head ≡ cond accepted (headAfter c h (versionsOf (h .used) ks ts vs)) h → Answered c h ks ts vs a head
+    answered head p =
+        let q = number-good h ks ts vs (mapAnswer (roomOf (length ks)) c) shaped in
+        record {
+          reply = replied _ _ (gives c (meaning h ks ts vs)) q a d;
+          headed = changed _ _ (gives c (meaning h ks ts vs)) q a d accepted y _ _ head p;
+        }
+
+-- an accepted begin has a number to give
+pub begin-next : (h : MapHead) (ks ts vs : List ℕ) (t : ℕ) (a : Reply) → a ≡ decided (Begin t) (roomOf (length ks)) (meaning h ks ts vs)
+    → (accepted : Bool) → accepted ≡ eqb (a .number) 0 → accepted ≡ true → h .next < 4294967295
+begin-next h ks ts vs t a d accepted y f =
+    begin-numbered (meaning h ks ts vs) t (is-accepted _ _ (gives (Begin t) (meaning h ks ts vs)) refl a d accepted y f)
+
+module _ (n t : ℕ) (h : MapHead) (ks ts vs : List ℕ) where
+  pub commit-bad-shape : isShaped h (length ks) (length ts) (length vs) ≡ false → Committed n t h ks ts vs (refused BadShape) h ks ts vs
+  commit-bad-shape e =
+      let q = number-bad h ks ts vs (mapAnswer (roomOf (length ks)) (Commit n t)) e in
+      record {
+        answered = bad-shape (Commit n t) h ks ts vs e;
+        keys = after-refused BadShape (number (Commit n t) h ks ts vs) _ ks q;
+        times = after-refused BadShape (number (Commit n t) h ks ts vs) _ ts q;
+        values = after-refused BadShape (number (Commit n t) h ks ts vs) _ vs q;
+      }
+
+  module _ (shaped : isShaped h (length ks) (length ts) (length vs) ≡ true) (a : Reply)
+      (d : a ≡ decided (Commit n t) (roomOf (length ks)) (meaning h ks ts vs)) (accepted : Bool) (y : accepted ≡ eqb (a .number) 0) where
+    -- an accepted commit has a lent row for each key
+    pub commit-lent : Shaped h (length ks) (length ts) (length vs) → accepted ≡ true
+        → Lent (h .used + length (rowsIn (h .slots) (slotOf (h .slots) n))) ks ts vs
+    commit-lent w f =
+        let z = is-accepted _ _ Absent refl a d accepted y f in
+        let fits = commit-fits (roomOf (length ks)) n t (meaning h ks ts vs) z in
+        let l : h .used + length (rowsIn (h .slots) (slotOf (h .slots) n)) ≤ roomOf (length ks) =
+        rw (length-versions (h .used) ks ts vs, place-slot (h .slots) n) at fits in
+        let r = min-le-right 4096 (length ks) in
+        record { keys = omega arith; times = omega (arith, w .times); values = omega (arith, w .values) }
+
+    pub committed : (head : MapHead) (ks' ts' vs' : List ℕ) → Put n t h ks ts vs accepted head ks' ts' vs'
+        → Committed n t h ks ts vs a head ks' ts' vs'
+    committed head ks' ts' vs' p =
+        let q = number-good h ks ts vs (mapAnswer (roomOf (length ks)) (Commit n t)) shaped in
+        record {
+          answered = answered (Commit n t) h ks ts vs shaped a d accepted y head (p .headed);
+          keys = changed _ _ Absent q a d accepted y _ _ ks' (p .keys);
+          times = changed _ _ Absent q a d accepted y _ _ ts' (p .times);
+          values = changed _ _ Absent q a d accepted y _ _ vs' (p .values);
+        }
+
+module _ (t : ℕ) (h : MapHead) (ks ts vs oks ovs : List ℕ) where
+  -- columns of a list that are not paired, or a store of bad shape
+  list-turned : listNumber t h ks ts vs oks ovs ≡ 1 → ListedAt t h ks ts vs oks ovs (refused BadShape) oks ovs
+  list-turned q =
+      record {
+        reply = say 1 (listNumber t h ks ts vs oks ovs) _ q;
+        keys = after-refused BadShape (listNumber t h ks ts vs oks ovs) _ oks q;
+        values = after-refused BadShape (listNumber t h ks ts vs oks ovs) _ ovs q;
+      }
+
+  pub list-unpaired : eqb (length oks) (length ovs) ≡ false → ListedAt t h ks ts vs oks ovs (refused BadShape) oks ovs
+  list-unpaired e = list-turned (rw e)
+
+  module _ (paired : eqb (length oks) (length ovs) ≡ true) where
+    pub list-bad-shape : isShaped h (length ks) (length ts) (length vs) ≡ false → ListedAt t h ks ts vs oks ovs (refused BadShape) oks ovs
+    list-bad-shape e = list-turned (rw paired (number-bad h ks ts vs (listAnswer (length oks) t) e))
+
+    module _ (shaped : isShaped h (length ks) (length ts) (length vs) ≡ true) (a : Reply)
+        (d : a ≡ told (listAnswer (length oks) t (meaning h ks ts vs)) (Present (length (listAt (versionsOf (h .used) ks ts vs) t))))
+        (accepted : Bool) (y : accepted ≡ eqb (a .number) 0) where
+      -- an accepted list has a lent row for each key
+      pub list-lent : accepted ≡ true → Room (listAt (versionsOf (h .used) ks ts vs) t) oks ovs
+      list-lent f =
+          let z = is-accepted _ _ _ refl a d accepted y f in
+          let l = fitting (listRefusal t (meaning h ks ts vs)) (length (listAt (versionsOf (h .used) ks ts vs) t)) (length oks) z .1 in
+          record { keys = l; values = omega (arith, eqb-true (length oks) (length ovs) paired) }
+
+      pub listed : (oks' ovs' : List ℕ) → Written (listAt (versionsOf (h .used) ks ts vs) t) oks ovs accepted oks' ovs'
+          → ListedAt t h ks ts vs oks ovs a oks' ovs'
+      listed oks' ovs' p =
+          let q : listNumber t h ks ts vs oks ovs ≡ listAnswer (length oks) t (meaning h ks ts vs) =
+          rw paired (number-good h ks ts vs (listAnswer (length oks) t) shaped) in
+          record {
+            reply = replied _ _ _ q a d;
+            keys = changed _ _ _ q a d accepted y _ _ oks' (p .keys);
+            values = changed _ _ _ q a d accepted y _ _ ovs' (p .values);
+          }
+
+module _ (t : ℕ) (h : MapHead) (ks ts vs : List ℕ) where
+  pub checkpoint-bad-shape : isShaped h (length ks) (length ts) (length vs) ≡ false → Checkpointed t h ks ts vs (refused BadShape) h ks ts vs
+  checkpoint-bad-shape e =
+      let q = number-bad h ks ts vs (checkpointRefusal t) e in
+      record {
+        reply = say 1 (checkpointNumber t h ks ts vs) Absent q;
+        headed = after-refused BadShape (checkpointNumber t h ks ts vs) _ h q;
+        keys = after-refused BadShape (checkpointNumber t h ks ts vs) _ ks q;
+        times = after-refused BadShape (checkpointNumber t h ks ts vs) _ ts q;
+        values = after-refused BadShape (checkpointNumber t h ks ts vs) _ vs q;
+      }
+
+  pub checkpointed : isShaped h (length ks) (length ts) (length vs) ≡ true → (a : Reply) → a ≡ told (checkpointRefusal t (meaning h ks ts vs)) Absent
+      → (accepted : Bool) → accepted ≡ eqb (a .number) 0 → (head : MapHead) (ks' ts' vs' : List ℕ)
+      → Thinned t h ks ts vs accepted head ks' ts' vs' → Checkpointed t h ks ts vs a head ks' ts' vs'
+  checkpointed shaped a d accepted y head ks' ts' vs' p =
+      let q = number-good h ks ts vs (checkpointRefusal t) shaped in
+      record {
+        reply = replied _ _ Absent q a d;
+        headed = changed _ _ Absent q a d accepted y _ _ head (p .headed);
+        keys = changed _ _ Absent q a d accepted y _ _ ks' (p .keys);
+        times = changed _ _ Absent q a d accepted y _ _ ts' (p .times);
+        values = changed _ _ Absent q a d accepted y _ _ vs' (p .values);
+      }

@@ -1,0 +1,9 @@
+pub mod Meaning
+pub mod Shape
+pub mod Heads
+pub mod Contracts
+pub mod Tests
+pub mod Laws
+pub mod RowLaws
+pub mod MeaningLaws
+pub mod Unique

@@ -1,0 +1,157 @@
+-- What the tests of a call, made in section 6's order, let it answer: on any store, one law for each way out. Assumes nothing.
+use mathlib.Core.Path.{_≡_, refl, sym, ap, _∙_}
+use mathlib.Core.Bool.{Bool, true, false, cond}
+use mathlib.Core.List.{List}
+use Prim.Native.Nat.{ℕ, _+_, _<_, _≤_}
+use native.Mathlib.Omega.{arith}
+use lib.Dec.{eqb, leb, ltb}
+use lib.ListN.{length}
+use borrow.Author.Tests.{lt-ltb, le-ltb, le-leb, lt-leb, eq-eqb, ne-eqb, leb-true, leb-false, eqb-true, eqb-false}
+use Rattle.rules.specs.declared.Value.{Value}
+use Rattle.rules.specs.declared.Effect.{Effect}
+use Rattle.rules.specs.Bools.{split}
+use Rattle.rules.specs.Values.{Row}
+use Rattle.rules.specs.Calls.{Begin, Update, Abort, Commit, withRoom}
+use Rattle.answer.specs.Reply.{accepted, told}
+use Rattle.slot.specs.Places.{free, taken, hasKey, placeOf, occupied, holds}
+use Rattle.versions.specs.Versions.{listAt}
+use Rattle.map_store.specs.Meaning.{MapStore, firsts, clash, rowsAt, timeRefusal, mapRefusal, mapAnswer, readRefusal, lookupRefusal, listAnswer, checkpointRefusal}
+
+-- the number that a call gets says its reply
+pub say : (n number : ℕ) (v : Value) → number ≡ n → told n v ≡ told number v
+say n number v e = sym (ap (λ (x : ℕ). told x v) e)
+
+-- an accepted call says its value too
+pub say-value : (number : ℕ) (v w : Value) → v ≡ w → number ≡ 0 → accepted v ≡ told number w
+say-value number v w e z = rw (e, z)
+
+-- a test that refuses did not, where the number is 0
+pub passed : (b : Bool) (n others : ℕ) → 1 ≤ n → cond b n others ≡ 0 → (b ≡ false) × (others ≡ 0)
+passed true n others l e = absurd (omega arith)
+passed false n others l e = (refl, e)
+
+-- an accepted call has the room that it needs
+pub fitting : (refused wanted room : ℕ) → withRoom refused wanted room ≡ 0 → (refused ≡ 0) × (wanted ≤ room)
+fitting refused wanted room h =
+    split (eqb refused 0)
+    (λ e. (eqb-true refused 0 e, split (leb wanted room) (λ f. leb-true wanted room f) (λ f. let z : _≡_ {A = ℕ} 12 0 = rw (e, f) at h in absurd (omega (arith, z)))))
+    (λ e. absurd (eqb-false refused 0 e (rw e at h)))
+
+module _ (m : MapStore) (t : ℕ) where
+  module _ (others : ℕ) where
+    pub time-old : t < m .low → timeRefusal t m others ≡ 4
+    time-old a = rw (lt-ltb t (m .low) a)
+
+    pub time-future : m .low ≤ t → m .last < t → timeRefusal t m others ≡ 5
+    time-future a b = rw (le-ltb t (m .low) a, lt-ltb (m .last) t b)
+
+    pub time-inside : m .low ≤ t → t ≤ m .last → timeRefusal t m others ≡ others
+    time-inside a b = rw (le-ltb t (m .low) a, le-ltb (m .last) t b)
+
+  module _ (a : m .low ≤ t) (b : t ≤ m .last) where
+    module _ (r : ℕ) (f : r ≡ occupied (m .places)) where
+      pub begin-many : 8 ≤ r → mapRefusal (Begin t) m ≡ 6
+      begin-many d = time-inside _ a b ∙ rw (← f, le-leb 8 r d)
+
+      pub begin-numbers : r < 8 → 4294967295 ≤ m .next → mapRefusal (Begin t) m ≡ 7
+      begin-numbers d g = time-inside _ a b ∙ rw (← f, lt-leb 8 r d, le-leb 4294967295 (m .next) g)
+
+      pub begin-begun : r < 8 → m .next < 4294967295 → mapRefusal (Begin t) m ≡ 0
+      begin-begun d g = time-inside _ a b ∙ rw (← f, lt-leb 8 r d, lt-leb 4294967295 (m .next) g)
+
+    module _ (x : Bool) (e : x ≡ holds t (m .places)) where
+      pub checkpoint-held : x ≡ true → checkpointRefusal t m ≡ 9
+      checkpoint-held f = time-inside _ a b ∙ rw (sym e ∙ f)
+
+      pub checkpoint-done : x ≡ false → checkpointRefusal t m ≡ 0
+      checkpoint-done f = time-inside _ a b ∙ rw (sym e ∙ f)
+
+    module _ (room count : ℕ) (e : count ≡ length (listAt (m .versions) t)) where
+      pub list-room : room < count → listAnswer room t m ≡ 12
+      list-room l = rw (time-inside 0 a b, ← e, lt-leb count room l)
+
+      pub list-done : count ≤ room → listAnswer room t m ≡ 0
+      list-done l = rw (time-inside 0 a b, ← e, le-leb count room l)
+
+  pub list-old : (room : ℕ) → t < m .low → listAnswer room t m ≡ 4
+  list-old room a = rw (time-old 0 a)
+
+  pub list-future : (room : ℕ) → m .low ≤ t → m .last < t → listAnswer room t m ≡ 5
+  list-future room a b = rw (time-future 0 a b)
+
+  -- an accepted begin has a number to give
+  pub begin-numbered : mapRefusal (Begin t) m ≡ 0 → m .next < 4294967295
+  begin-numbered e =
+      let numbers : ℕ = cond (leb 4294967295 (m .next)) 7 0 in
+      let many : ℕ = cond (leb 8 (occupied (m .places))) 6 numbers in
+      let later : ℕ = cond (ltb (m .last) t) 5 many in
+      let e1 : later ≡ 0 = passed (ltb t (m .low)) 4 later (omega arith) e .1 in
+      let e2 : many ≡ 0 = passed (ltb (m .last) t) 5 many (omega arith) e1 .1 in
+      let e3 : numbers ≡ 0 = passed (leb 8 (occupied (m .places))) 6 numbers (omega arith) e2 .1 in
+      leb-false 4294967295 (m .next) (passed (leb 4294967295 (m .next)) 7 0 (omega arith) e3 .0)
+
+  module _ (k : ℕ) where
+    pub lookup-key : k ≡ 0 → lookupRefusal k t m ≡ 3
+    lookup-key z = rw (eq-eqb k 0 z)
+
+    pub lookup-time : (k ≡ 0 → ⊥) → lookupRefusal k t m ≡ timeRefusal t m 0
+    lookup-time z = rw (ne-eqb k 0 z)
+
+module _ (m : MapStore) (n : ℕ) where
+  module _ (p : placeOf n (m .places) ≡ free) where
+    pub abort-unknown : mapRefusal (Abort n) m ≡ 2
+    abort-unknown = rw p
+
+    pub read-unknown : (k : ℕ) → readRefusal n k m ≡ 2
+    read-unknown k = rw p
+
+    pub update-unknown : (k : ℕ) (x : Effect) → mapRefusal (Update n k x) m ≡ 2
+    update-unknown k x = rw p
+
+    pub commit-unknown : (room t : ℕ) → mapAnswer room (Commit n t) m ≡ 2
+    commit-unknown room t = rw p
+
+  module _ (x s : ℕ) (rows : List Row) (p : placeOf n (m .places) ≡ taken x s rows) where
+    pub abort-done : mapRefusal (Abort n) m ≡ 0
+    abort-done = rw p
+
+    module _ (k : ℕ) where
+      pub read-key : k ≡ 0 → readRefusal n k m ≡ 3
+      read-key z = rw (p, eq-eqb k 0 z)
+
+      pub read-done : (k ≡ 0 → ⊥) → readRefusal n k m ≡ 0
+      read-done z = rw (p, ne-eqb k 0 z)
+
+      module _ (e : Effect) where
+        pub update-key : k ≡ 0 → mapRefusal (Update n k e) m ≡ 3
+        update-key z = rw (p, eq-eqb k 0 z)
+
+        module _ (z : k ≡ 0 → ⊥) (b : Bool) (d : b ≡ hasKey k rows) where
+          pub update-again : b ≡ true → mapRefusal (Update n k e) m ≡ 0
+          update-again f = rw (p, ne-eqb k 0 z, sym d ∙ f)
+
+          pub update-full : b ≡ false → 32 ≤ length rows → mapRefusal (Update n k e) m ≡ 8
+          update-full f l = rw (p, ne-eqb k 0 z, sym d ∙ f, le-ltb (length rows) 32 l)
+
+          pub update-new : b ≡ false → length rows < 32 → mapRefusal (Update n k e) m ≡ 0
+          update-new f l = rw (p, ne-eqb k 0 z, sym d ∙ f, lt-ltb (length rows) 32 l)
+
+    module _ (room t : ℕ) where
+      pub commit-later : t ≤ m .last → mapAnswer room (Commit n t) m ≡ 10
+      commit-later l = rw (p, le-leb t (m .last) l)
+
+      module _ (l : m .last < t) (b : Bool) (d : b ≡ clash s rows (m .versions)) where
+        pub commit-conflict : b ≡ true → mapAnswer room (Commit n t) m ≡ 11
+        commit-conflict f = rw (p, lt-leb t (m .last) l, sym d ∙ f)
+
+        module _ (f : b ≡ false) (used count : ℕ) (u : length (m .versions) ≡ used) (g : count ≡ length (firsts rows)) where
+          pub commit-room : room < used + count → mapAnswer room (Commit n t) m ≡ 12
+          commit-room o = rw (p, lt-leb t (m .last) l, sym d ∙ f, u, ← g, lt-leb (used + count) room o)
+
+          pub commit-done : used + count ≤ room → mapAnswer room (Commit n t) m ≡ 0
+          commit-done o = rw (p, lt-leb t (m .last) l, sym d ∙ f, u, ← g, le-leb (used + count) room o)
+
+-- an accepted commit has a row for each key
+pub commit-fits : (room n t : ℕ) (m : MapStore) → mapAnswer room (Commit n t) m ≡ 0
+    → length (m .versions) + length (rowsAt (placeOf n (m .places))) ≤ room
+commit-fits room n t m e = fitting (mapRefusal (Commit n t) m) (length (m .versions) + length (rowsAt (placeOf n (m .places)))) room e .1

@@ -1,0 +1,65 @@
+-- No second answer, no second head and no second contents of the lent columns satisfy a contract. Assumes nothing.
+use mathlib.Core.Path.{_≡_, sym, ap₂, _∙_}
+use mathlib.Core.List.{List}
+use Prim.Native.Nat.{ℕ}
+use Rattle.rules.specs.Calls.{Call}
+use Rattle.answer.specs.declared.Begun.{Begun}
+use Rattle.answer.specs.declared.Done.{Done}
+use Rattle.answer.specs.declared.Got.{Got}
+use Rattle.answer.specs.declared.Listed.{Listed}
+use Rattle.answer.specs.Reply.{ofBegun, ofDone, ofGot, ofListed}
+use Rattle.answer.specs.Laws.{begun-only, done-only, got-only, listed-only}
+use Rattle.map_store.specs.declared.MapHead.{MapHead}
+use Rattle.map_store.specs.declared.Started.{Started}
+use Rattle.map_store.specs.declared.Outcome.{Outcome}
+use Rattle.map_store.specs.Shape.{emptyHead}
+use Rattle.map_store.specs.Contracts.{Answered, Committed, readReply, lookupReply, ListedAt, Checkpointed}
+
+pub empty-unique : {a b : MapHead} → a ≡ emptyHead → b ≡ emptyHead → a ≡ b
+empty-unique p q = p ∙ sym q
+
+-- what is returned is its head and its answer
+outcome : (r s : Outcome) → r .head ≡ s .head → r .answer ≡ s .answer → r ≡ s
+outcome r s p q = ap₂ (λ (h : MapHead) (a : Done). record { head = h; answer = a }) p q
+
+module _ (h : MapHead) (ks ts vs : List ℕ) where
+  pub begin-unique : {c : Call} (r s : Started) → Answered c h ks ts vs (ofBegun (r .answer)) (r .head)
+      → Answered c h ks ts vs (ofBegun (s .answer)) (s .head) → r ≡ s
+  begin-unique r s p q =
+      ap₂ (λ (x : MapHead) (a : Begun). record { head = x; answer = a }) (p .headed ∙ sym (q .headed))
+      (begun-only (r .answer) (s .answer) (p .reply ∙ sym (q .reply)))
+
+  -- update and abort
+  pub call-unique : {c : Call} (r s : Outcome) → Answered c h ks ts vs (ofDone (r .answer)) (r .head)
+      → Answered c h ks ts vs (ofDone (s .answer)) (s .head) → r ≡ s
+  call-unique r s p q = outcome r s (p .headed ∙ sym (q .headed)) (done-only (r .answer) (s .answer) (p .reply ∙ sym (q .reply)))
+
+  pub commit-unique : {n t : ℕ} {ks₁ ts₁ vs₁ ks₂ ts₂ vs₂ : List ℕ} (r s : Outcome)
+      → Committed n t h ks ts vs (ofDone (r .answer)) (r .head) ks₁ ts₁ vs₁ → Committed n t h ks ts vs (ofDone (s .answer)) (s .head) ks₂ ts₂ vs₂
+      → (r ≡ s) × (ks₁ ≡ ks₂) × (ts₁ ≡ ts₂) × (vs₁ ≡ vs₂)
+  commit-unique r s p q = (
+    call-unique r s (p .answered) (q .answered),
+    p .keys ∙ sym (q .keys),
+    p .times ∙ sym (q .times),
+    p .values ∙ sym (q .values),
+  )
+
+  pub read-unique : (n k : ℕ) (a b : Got) → ofGot a ≡ readReply n k h ks ts vs → ofGot b ≡ readReply n k h ks ts vs → a ≡ b
+  read-unique n k a b p q = got-only a b (p ∙ sym q)
+
+  pub lookup-unique : (k t : ℕ) (a b : Got) → ofGot a ≡ lookupReply k t h ks ts vs → ofGot b ≡ lookupReply k t h ks ts vs → a ≡ b
+  lookup-unique k t a b p q = got-only a b (p ∙ sym q)
+
+  pub list-unique : {t : ℕ} {oks ovs oks₁ ovs₁ oks₂ ovs₂ : List ℕ} (a b : Listed) → ListedAt t h ks ts vs oks ovs (ofListed a) oks₁ ovs₁
+      → ListedAt t h ks ts vs oks ovs (ofListed b) oks₂ ovs₂ → (a ≡ b) × (oks₁ ≡ oks₂) × (ovs₁ ≡ ovs₂)
+  list-unique a b p q = (listed-only a b (p .reply ∙ sym (q .reply)), p .keys ∙ sym (q .keys), p .values ∙ sym (q .values))
+
+  pub checkpoint-unique : {t : ℕ} {ks₁ ts₁ vs₁ ks₂ ts₂ vs₂ : List ℕ} (r s : Outcome)
+      → Checkpointed t h ks ts vs (ofDone (r .answer)) (r .head) ks₁ ts₁ vs₁ → Checkpointed t h ks ts vs (ofDone (s .answer)) (s .head) ks₂ ts₂ vs₂
+      → (r ≡ s) × (ks₁ ≡ ks₂) × (ts₁ ≡ ts₂) × (vs₁ ≡ vs₂)
+  checkpoint-unique r s p q = (
+    outcome r s (p .headed ∙ sym (q .headed)) (done-only (r .answer) (s .answer) (p .reply ∙ sym (q .reply))),
+    p .keys ∙ sym (q .keys),
+    p .times ∙ sym (q .times),
+    p .values ∙ sym (q .values),
+  )

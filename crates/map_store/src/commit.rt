@@ -1,0 +1,176 @@
+// Commit: the running values of a transaction become versions at a time later than last. Refusals 1, 2, 10, 11, 12.
+ghost use mathlib.Core.Path.{_≡_};
+ghost use mathlib.Core.Bool.{true, not};
+ghost use mathlib.Core.List.{List};
+ghost use Prim.Native.Nat.{ℕ, _+_, _≤_, _<_};
+ghost use lib.ListN.{length, getD};
+ghost use Rattle.rules.specs.Calls.{Commit};
+ghost use Rattle.answer.specs.Reply.{ofDone};
+ghost use Rattle.slot.specs.Formed.{Rowed};
+ghost use Rattle.slot.specs.Places.{hasKey, rowsOf, slotRows};
+ghost use Rattle.slot.specs.Slots.{slotOf};
+ghost use Rattle.versions.specs.Versions.{versionsOf};
+ghost use Rattle.versions.specs.Columns.{Lent};
+ghost use Rattle.map_store.specs.Meaning.{firsts, clash};
+ghost use Rattle.map_store.specs.Shape.{Shaped, meaning, roomOf};
+ghost use Rattle.map_store.specs.Heads.{rowsIn};
+ghost use Rattle.map_store.specs.Contracts.{decided, Committed, Stamped, Put};
+use crate::MapHead;
+use crate::Outcome;
+use answer::Done;
+use answer::Refusal;
+use column::Found;
+use slot::Slot;
+use versions::Version;
+
+// Whether row i of a slot is the first that has its key: of one key twice it alone counts.
+fn is_first(s: Slot, i: usize) -> bool
+    requires { ⌜ Rowed s × (i < s .count) ⌝ }
+    ensures { λ r. ⌜ r ≡ not (hasKey (getD (s .keys) i 0) (rowsOf (s .keys) (s .values) i)) ⌝ }
+{
+    let written = s.keys;
+    let k = written[i];
+    match column::find(&written, i, k) {
+        Found::At(_) => false,
+        Found::Nothing => true,
+    }
+}
+
+// How many keys the transaction of a slot wrote.
+fn count_written(s: Slot) -> usize
+    requires { ⌜ Rowed s ⌝ }
+    ensures { λ r. ⌜ r ≡ length (firsts (slotRows s)) ⌝ }
+{
+    let rows = s.count;
+    let mut count = 0;
+    let mut i = 0;
+    while i < rows {
+        if is_first(s, i) {
+            count += 1;
+        }
+        i += 1;
+    }
+    count
+}
+
+// Rule 3.6: whether a key that the transaction of a slot wrote has a version later than its snapshot.
+fn conflicts(s: Slot, keys: &[u32], times: &[u64], used: usize) -> bool
+    requires { ⌜ Rowed s × (used ≤ length (now keys)) × (used ≤ length (now times)) ⌝ }
+    ensures { λ r. ⌜ ((values : List ℕ) → r ≡ clash (s .snapshot) (slotRows s) (versionsOf used (now (keys .entry)) (now (times .entry)) values)) ⌝ }
+{
+    let written = s.keys;
+    let rows = s.count;
+    let mut i = 0;
+    while i < rows {
+        if versions::is_later(keys, times, used, written[i], s.snapshot) {
+            return true;
+        }
+        i += 1;
+    }
+    false
+}
+
+// What a store of good shape answers.
+fn decide(h: MapHead, keys: &[u32], times: &[u64], values: &[u32], n: u32, t: u64) -> Done
+    requires { ⌜ Shaped h (length (now keys)) (length (now times)) (length (now values)) ⌝ }
+    ensures { λ r. ⌜ ofDone r ≡ decided (Commit n t) (roomOf (length (now (keys .entry)))) (meaning h (now (keys .entry)) (now (times .entry)) (now (values .entry))) ⌝ }
+{
+    let slots = h.slots;
+    match slots.find(n) {
+        Found::At(i) => {
+            if t <= h.last {
+                return Done::Refused(Refusal::NotLater);
+            }
+            let s = slots.at(i);
+            if conflicts(s, keys, times, h.used) {
+                return Done::Refused(Refusal::Conflict);
+            }
+            if crate::room(keys.len()) < h.used + count_written(s) {
+                return Done::Refused(Refusal::NoRoom);
+            }
+            Done::Accepted
+        }
+        Found::Nothing => Done::Refused(Refusal::UnknownTransaction),
+    }
+}
+
+// Rule 3.8: a version at t for each key of a slot, in order of first update, with its running value. Answers how many versions are used then.
+fn stamp(
+    s: Slot,
+    keys: &mut [u32],
+    times: &mut [u64],
+    values: &mut [u32],
+    used: usize,
+    t: u64,
+) -> usize
+    requires { do ⌜ Rowed s × (used ≤ (← ⟦Version::ROWS⟧)) × Lent (used + length (firsts (slotRows s))) (now keys) (now times) (now values) ⌝ }
+    ensures { λ r. ⌜ Stamped t used (firsts (slotRows s)) (now (keys .entry)) (now (times .entry)) (now (values .entry)) (now (keys .exit)) (now (times .exit)) (now (values .exit)) r ⌝ }
+{
+    let written = s.keys;
+    let running = s.values;
+    let rows = s.count;
+    let mut at = used;
+    let mut i = 0;
+    while i < rows {
+        if is_first(s, i) {
+            versions::append(keys, times, values, at, written[i], t, running[i]);
+            at += 1;
+        }
+        i += 1;
+    }
+    at
+}
+
+// The versions written, last moved and the transaction's slot freed, if the call was accepted.
+fn put(
+    h: MapHead,
+    keys: &mut [u32],
+    times: &mut [u64],
+    values: &mut [u32],
+    accepted: bool,
+    n: u32,
+    t: u64,
+) -> MapHead
+    requires { ⌜ Shaped h (length (now keys)) (length (now times)) (length (now values)) × (accepted ≡ true → Lent (h .used + length (rowsIn (h .slots) (slotOf (h .slots) n))) (now keys) (now times) (now values)) ⌝ }
+    ensures { λ r. ⌜ Put n t h (now (keys .entry)) (now (times .entry)) (now (values .entry)) accepted r (now (keys .exit)) (now (times .exit)) (now (values .exit)) ⌝ }
+{
+    if !accepted {
+        return h;
+    }
+    let slots = h.slots;
+    match slots.find(n) {
+        Found::At(i) => {
+            let used = stamp(slots.at(i), keys, times, values, h.used, t);
+            MapHead {
+                low: h.low,
+                last: t,
+                next: h.next,
+                used: used,
+                slots: slots.closed(i),
+            }
+        }
+        Found::Nothing => h,
+    }
+}
+
+// Commits a running transaction at t.
+pub fn commit(
+    h: MapHead,
+    keys: &mut [u32],
+    times: &mut [u64],
+    values: &mut [u32],
+    n: u32,
+    t: u64,
+) -> Outcome
+    ensures { λ r. ⌜ Committed n t h (now (keys .entry)) (now (times .entry)) (now (values .entry)) (ofDone (r .answer)) (r .head) (now (keys .exit)) (now (times .exit)) (now (values .exit)) ⌝ }
+{
+    if !crate::shaped(h, keys.len(), times.len(), values.len()) {
+        return Outcome {
+            head: h,
+            answer: Done::Refused(Refusal::BadShape),
+        };
+    }
+    let answer = decide(h, keys, times, values, n, t);
+    let head = put(h, keys, times, values, answer.accepted(), n, t);
+    Outcome { head, answer }
+}

@@ -1,0 +1,113 @@
+// The map store: its head, and what all its calls share. Every call is lent the whole store, head and version columns, and makes the same
+// shape test; it answers for all inputs and asks nothing of its caller.
+ghost use mathlib.Core.Path.{_≡_};
+ghost use mathlib.Core.Bool.{true};
+ghost use Rattle.slot.specs.Formed.{Rowed};
+ghost use Rattle.slot.specs.Places.{slotRows};
+ghost use Rattle.versions.specs.Columns.{Lent};
+ghost use Rattle.versions.specs.Versions.{versionsOf};
+ghost use Rattle.map_store.specs.Meaning.{current};
+ghost use Rattle.map_store.specs.Shape.{emptyHead, isShaped, Shaped, roomOf};
+use answer::Begun;
+use answer::Done;
+use column::Found;
+use rules::Value;
+use slot::Slot;
+use slot::Slots;
+use versions::Version;
+
+pub mod abort;
+pub mod begin;
+pub mod checkpoint;
+pub mod commit;
+pub mod list;
+pub mod lookup;
+pub mod read;
+pub mod update;
+
+// The map head: low, last, the next transaction number, how many versions are used, and the eight transaction slots.
+pub struct MapHead {
+    pub low: u64,
+    pub last: u64,
+    pub next: u32,
+    pub used: usize,
+    pub slots: Slots,
+}
+
+impl MapHead {
+    // From here on there are no transaction numbers.
+    pub const NO_NUMBER: u32 = 4294967295;
+
+    // The head of an empty store.
+    pub fn empty() -> Self
+        ensures { λ r. ⌜ r ≡ emptyHead ⌝ }
+    {
+        MapHead {
+            low: 0,
+            last: 0,
+            next: 1,
+            used: 0,
+            slots: Slots::empty(),
+        }
+    }
+}
+
+// What begin returns: the head and its answer.
+pub struct Started {
+    pub head: MapHead,
+    pub answer: Begun,
+}
+
+// What update, abort, commit and checkpoint return: the head and the answer.
+pub struct Outcome {
+    pub head: MapHead,
+    pub answer: Done,
+}
+
+// Section 6, number 1, the same for every call: used versions within limit and lent room, three columns of one length, next not 0, no occupied
+// slot with more than 32 keys.
+fn shaped(h: MapHead, keys: usize, times: usize, values: usize) -> bool
+    ensures { λ r. ⌜ r ≡ isShaped h keys times values ⌝ }
+    ensures { λ r. ⌜ (r ≡ true → Shaped h keys times values) ⌝ }
+{
+    let used = h.used;
+    if used > Version::ROWS {
+        return false;
+    }
+    if used > keys {
+        return false;
+    }
+    if keys != times {
+        return false;
+    }
+    if keys != values {
+        return false;
+    }
+    if h.next == 0 {
+        return false;
+    }
+    let slots = h.slots;
+    slots.shaped()
+}
+
+// How many versions the lent columns have room for, at most the limit.
+fn room(rows: usize) -> usize
+    ensures { λ r. ⌜ r ≡ roomOf rows ⌝ }
+{
+    if Version::ROWS < rows {
+        return Version::ROWS;
+    }
+    rows
+}
+
+// Rule 3.5: what the transaction of a slot reads in k: the running value in its row, or the value at the snapshot where it has none.
+fn current_value(s: Slot, keys: &[u32], times: &[u64], values: &[u32], used: usize, k: u32) -> Value
+    requires { ⌜ Rowed s × Lent used (now keys) (now times) (now values) ⌝ }
+    ensures { λ r. ⌜ r ≡ current k (s .snapshot) (slotRows s) (versionsOf used (now (keys .entry)) (now (times .entry)) (now (values .entry))) ⌝ }
+{
+    let running = s.values;
+    match s.find(k) {
+        Found::At(i) => Value::Present(running[i]),
+        Found::Nothing => versions::value_at(keys, times, values, used, k, s.snapshot),
+    }
+}

@@ -1,0 +1,39 @@
+// Read: what a running transaction reads in a key. Refusals 1, 2, 3.
+ghost use mathlib.Core.Path.{_≡_};
+ghost use lib.ListN.{length};
+ghost use Rattle.answer.specs.Reply.{ofGot, told};
+ghost use Rattle.map_store.specs.Meaning.{readRefusal, readIn};
+ghost use Rattle.map_store.specs.Shape.{Shaped, meaning};
+ghost use Rattle.map_store.specs.Contracts.{readReply};
+use crate::MapHead;
+use answer::Got;
+use answer::Refusal;
+use column::Found;
+
+// What a store of good shape answers.
+fn decide(h: MapHead, keys: &[u32], times: &[u64], values: &[u32], n: u32, k: u32) -> Got
+    requires { ⌜ Shaped h (length (now keys)) (length (now times)) (length (now values)) ⌝ }
+    ensures { λ r. ⌜ ofGot r ≡ told (readRefusal n k (meaning h (now (keys .entry)) (now (times .entry)) (now (values .entry)))) (readIn n k (meaning h (now (keys .entry)) (now (times .entry)) (now (values .entry)))) ⌝ }
+{
+    let slots = h.slots;
+    match slots.find(n) {
+        Found::At(i) => {
+            if k == 0 {
+                return Got::Refused(Refusal::BadKey);
+            }
+            let s = slots.at(i);
+            Got::Value(crate::current_value(s, keys, times, values, h.used, k))
+        }
+        Found::Nothing => Got::Refused(Refusal::UnknownTransaction),
+    }
+}
+
+// What the transaction reads in k: the value at its snapshot, then its own updates.
+pub fn read(h: MapHead, keys: &[u32], times: &[u64], values: &[u32], n: u32, k: u32) -> Got
+    ensures { λ r. ⌜ ofGot r ≡ readReply n k h (now (keys .entry)) (now (times .entry)) (now (values .entry)) ⌝ }
+{
+    if !crate::shaped(h, keys.len(), times.len(), values.len()) {
+        return Got::Refused(Refusal::BadShape);
+    }
+    decide(h, keys, times, values, n, k)
+}
