@@ -1,0 +1,77 @@
+-- What the rules have tested in a deed that they do not refuse. Assumes nothing.
+use mathlib.Core.Path.{_≡_, refl}
+use mathlib.Core.Bool.{Bool, true, false, cond, not}
+use Prim.Native.Nat.{ℕ, _<_, _≤_}
+use native.Mathlib.Omega.{arith}
+use lib.Dec.{eqb, leb, ltb}
+use lib.ListN.{length}
+use borrow.Author.Tests.{eqb-true, eqb-false, leb-true, leb-false, ltb-false, not-false}
+use Rattle.rules.specs.declared.Effect.{Effect}
+use Rattle.rules.specs.Transactions.{runs, running}
+use Rattle.rules.specs.Conflicts.{conflict}
+use Rattle.rules.specs.Checkpoints.{held}
+use Rattle.rules.specs.Recovery.{mayWrite}
+use Rattle.rules.specs.Calls.{Store, lastOf, nextOf, Begin, Update, Abort, Commit, timeRefusal, refusal, checkpointRefusal, withRoom}
+use Rattle.rules.specs.Bools.{split}
+use Rattle.versions.specs.Versions.{at}
+use Rattle.history.specs.History.{Deed, Did, Checkpointed}
+use Rattle.history.specs.Judged.{pos}
+
+-- section 6 but for shape and room, for every deed
+abbrev pub refused : Deed → Store → ℕ
+refused (Did c) s = refusal c s
+refused (Checkpointed t) s = checkpointRefusal t s
+
+-- a deed that is not refused, a case for each kind
+pub data Allowed (s : Store) : Deed → Type 0 where
+  may-begin : (t : ℕ) → s .low ≤ t → t ≤ lastOf s → length (running (s .records)) < 8 → nextOf s < 4294967295 → Allowed s (Did (Begin t))
+  may-update : (n k : ℕ) (e : Effect) → runs n (s .records) ≡ true → 1 ≤ k → mayWrite n k (s .records) ≡ true → Allowed s (Did (Update n k e))
+  may-abort : (n : ℕ) → runs n (s .records) ≡ true → Allowed s (Did (Abort n))
+  may-commit : (n t : ℕ) → runs n (s .records) ≡ true → lastOf s < t → conflict n (s .records) ≡ false → Allowed s (Did (Commit n t))
+  may-checkpoint : (t : ℕ) → s .low ≤ t → t ≤ lastOf s → held t (s .records) ≡ false → Allowed s (Checkpointed t)
+
+-- one test passed
+passed : (b : Bool) (n x : ℕ) → 0 < n → cond b n x ≡ 0 → (b ≡ false) × (x ≡ 0)
+passed true n x l e = absurd (omega arith)
+passed false n x l e = (refl, e)
+
+module _ (s : Store) where
+  -- the two tests of a time
+  timely-at : (t x : ℕ) → timeRefusal t s x ≡ 0 → (s .low ≤ t) × (t ≤ lastOf s) × (x ≡ 0)
+  timely-at t x e =
+      let p = passed (ltb t (s .low)) 4 (cond (ltb (lastOf s) t) 5 x) (omega arith) e in
+      let q = passed (ltb (lastOf s) t) 5 x (omega arith) (p .1) in
+      (ltb-false _ _ (p .0), ltb-false _ _ (q .0), q .1)
+
+  -- what is not refused is allowed
+  pub allowed : (d : Deed) → refused d s ≡ 0 → Allowed s d
+  allowed (Did (Begin t)) e =
+      let p = timely-at t (cond (leb 8 (length (running (s .records)))) 6 (cond (leb 4294967295 (nextOf s)) 7 0)) e in
+      let u = passed (leb 8 (length (running (s .records)))) 6 (cond (leb 4294967295 (nextOf s)) 7 0) (omega arith) (p .2) in
+      let v = passed (leb 4294967295 (nextOf s)) 7 0 (omega arith) (u .1) in
+      may-begin t (p .0) (p .1) (leb-false _ _ (u .0)) (leb-false _ _ (v .0))
+  allowed (Did (Update n k f)) e =
+      let p = passed (not (runs n (s .records))) 2 (cond (eqb k 0) 3 (cond (not (mayWrite n k (s .records))) 8 0)) (omega arith) e in
+      let q = passed (eqb k 0) 3 (cond (not (mayWrite n k (s .records))) 8 0) (omega arith) (p .1) in
+      let t = passed (not (mayWrite n k (s .records))) 8 0 (omega arith) (q .1) in
+      may-update n k f (not-false _ (p .0)) (pos k (q .0)) (not-false _ (t .0))
+  allowed (Did (Abort n)) e = may-abort n (not-false _ (passed (not (runs n (s .records))) 2 0 (omega arith) e .0))
+  allowed (Did (Commit n t)) e =
+      let p = passed (not (runs n (s .records))) 2 (cond (leb t (lastOf s)) 10 (cond (conflict n (s .records)) 11 0)) (omega arith) e in
+      let q = passed (leb t (lastOf s)) 10 (cond (conflict n (s .records)) 11 0) (omega arith) (p .1) in
+      let u = passed (conflict n (s .records)) 11 0 (omega arith) (q .1) in
+      may-commit n t (not-false _ (p .0)) (leb-false _ _ (q .0)) (u .0)
+  allowed (Checkpointed t) e =
+      let p = timely-at t (cond (held t (s .records)) 9 0) e in
+      may-checkpoint t (p .0) (p .1) (passed (held t (s .records)) 9 0 (omega arith) (p .2) .0)
+
+-- no room (12) is tested last: what is accepted is not refused, and has room
+pub has-room : (number wanted room : ℕ) → withRoom number wanted room ≡ 0 → (number ≡ 0) × (wanted ≤ room)
+has-room number wanted room e =
+    split (eqb number 0)
+    (λ x.
+    let f : _≡_ {A = ℕ} (cond (leb wanted room) 0 12) 0 = rw x at e in
+    split (leb wanted room)
+    (λ y. (eqb-true number 0 x, leb-true wanted room y))
+    (λ y. let z : _≡_ {A = ℕ} 12 0 = rw y at f in absurd (omega arith)))
+    (λ x. let z : number ≡ 0 = rw x at e in absurd (eqb-false number 0 x z))

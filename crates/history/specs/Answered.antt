@@ -1,0 +1,129 @@
+-- What the invariant gives: the store answers as the history of its deeds; a checkpoint and a restart are seen only where the rules say so.
+-- Assumes nothing.
+use mathlib.Core.Path.{_≡_, refl, ap, sym, _∙_}
+use mathlib.Core.Bool.{true}
+use mathlib.Core.List.{List, [], _∷_}
+use Prim.Native.Nat.{ℕ, _≤_}
+use native.Mathlib.Omega.{arith}
+use lib.ListN.{length, drop}
+use Rattle.rules.specs.declared.Value.{Value}
+use Rattle.rules.specs.Transactions.{of, runs, snapshot, running}
+use Rattle.rules.specs.Values.{Row, valueAt, readIn}
+use Rattle.rules.specs.Lists.{among, listAt}
+use Rattle.rules.specs.Recovery.{survivors}
+use Rattle.rules.specs.Calls.{Store, lastOf, nextOf, Abort, checkpointed}
+use Rattle.rules.specs.Bools.{split}
+use Rattle.rules.specs.Listing.{list-lists, lists-unique}
+use Rattle.versions.specs.Versions.{at}
+use Rattle.history.specs.History.{Runner, Deed, Did, Checkpointed, numbers, history, aborting, restarted, valueIn, reads, listIn}
+use Rattle.history.specs.Refusals.{lastIn}
+use Rattle.history.specs.Sequences.{Course, lose, recovered}
+use Rattle.history.specs.Listed.{history-lists}
+use Rattle.history.specs.RefusedAlike.{snapshot-low, begun-of}
+use Rattle.history.specs.Recovered.{survivors-none}
+use Rattle.history.specs.Replayed.{whole}
+use Rattle.history.specs.Allowed.{refused, Allowed, may-checkpoint, allowed}
+use Rattle.history.specs.Told.{value-told, last-told, tells, read-told}
+use Rattle.history.specs.Tied.{Tied, tied-restart, now, good-now, low-now, next-above, tied-checkpoint}
+use Rattle.history.specs.Room.{running-none}
+
+-- what a store lists, what it has for a key, and what a transaction reads in it
+abbrev pub lists : Store → ℕ → List Row
+lists s t = listAt (s .base) (s .records) t
+
+abbrev pub looksUp : Store → ℕ → ℕ → Value
+looksUp s t k = valueAt (s .base) (s .records) t k
+
+abbrev pub readsIn : Store → ℕ → ℕ → Value
+readsIn s n k = readIn (s .base) (s .records) n k
+
+module _ (y : Course) (h : Tied y) where
+  pub low-same : y .store .low ≡ history (y .deeds) .low
+  low-same = sym (tells (h .lawful) .lows ∙ low-now y h)
+
+  pub last-same : lastOf (y .store) ≡ lastIn (history (y .deeds))
+  last-same =
+      let t = tells (h .lawful) in
+      rw (now y h .lasts, ← low-same, t .commits) (last-told (y .store .low) (whole (y .deeds) .records))
+
+  pub next-same : nextOf (y .store) ≡ history (y .deeds) .next
+  next-same = next-above y h ∙ now y h .aboves ∙ sym (tells (h .lawful) .nexts)
+
+  pub running-same : running (y .store .records) ≡ numbers (history (y .deeds) .runners)
+  running-same = now y h .runnings ∙ sym (tells (h .lawful) .runs-alike)
+
+  pub value-same : (t k : ℕ) → 1 ≤ k → y .store .low ≤ t → looksUp (y .store) t k ≡ valueIn (history (y .deeds) .commitments) t k
+  value-same t k i l = now y h .values k t i l ∙ rw (tells (h .lawful) .commits) (value-told k t (whole (y .deeds) .records))
+
+  pub list-same : (t : ℕ) → y .store .low ≤ t → lists (y .store) t ≡ listIn (history (y .deeds) .commitments) t
+  list-same t l =
+      let s = y .store in
+      let cs = history (y .deeds) .commitments in
+      let p = list-lists (s .base) (s .records) t in
+      lists-unique (valueIn cs t) (lists s t) (listIn cs t)
+      (record { values = λ k i. p .values k i ∙ value-same t k i l; rises = p .rises })
+      (history-lists cs t)
+
+  pub read-same : (n k : ℕ) → runs n (y .store .records) ≡ true → 1 ≤ k → readsIn (y .store) n k ≡ reads (history (y .deeds)) n k
+  read-same n k u i =
+      let b = whole (y .deeds) .records in
+      let v : runs n b ≡ true = sym (now y h .run n) ∙ u in
+      let o : of n (y .store .records) ≡ of n b = now y h .own n u in
+      let l : y .store .low ≤ snapshot n b = rw o at (snapshot-low (good-now y h) n (begun-of n (y .store .records) u)) in
+      rw (o, now y h .values k (snapshot n b) i l) (read-told (h .lawful) n k v)
+
+-- a checkpoint
+module _ (y : Course) (h : Tied y) (T : ℕ) (ok : refused (Checkpointed T) (y .store) ≡ 0) where
+  low-raised : y .store .low ≤ T
+  low-raised = raised-to (allowed (y .store) (Checkpointed T) ok)
+    where
+      raised-to : {t : ℕ} → Allowed (y .store) (Checkpointed t) → y .store .low ≤ t
+      raised-to (may-checkpoint t l m n) = l
+
+  abbrev later : Course
+  later = record { store = checkpointed T (y .store); deeds = Checkpointed T ∷ y .deeds; since = 0 }
+
+  tied-later : Tied later
+  tied-later = tied-checkpoint y h (allowed (y .store) (Checkpointed T) ok) ok
+
+  pub checkpointed-lists : (t : ℕ) → T ≤ t → lists (checkpointed T (y .store)) t ≡ lists (y .store) t
+  checkpointed-lists t l = list-same later tied-later t l ∙ sym (list-same y h t (omega (arith, low-raised)))
+
+  pub checkpointed-looks-up : (t k : ℕ) → 1 ≤ k → T ≤ t → looksUp (checkpointed T (y .store)) t k ≡ looksUp (y .store) t k
+  checkpointed-looks-up t k i l = value-same later tied-later t k i l ∙ sym (value-same y h t k i (omega (arith, low-raised)))
+
+  pub checkpointed-runs : (n : ℕ) → runs n (checkpointed T (y .store) .records) ≡ runs n (y .store .records)
+  checkpointed-runs n = now later tied-later .run n ∙ sym (now y h .run n)
+
+  pub checkpointed-reads : (n k : ℕ) → runs n (y .store .records) ≡ true → 1 ≤ k → readsIn (checkpointed T (y .store)) n k ≡ readsIn (y .store) n k
+  checkpointed-reads n k u i = read-same later tied-later n k (checkpointed-runs n ∙ u) i ∙ sym (read-same y h n k u i)
+
+-- aborts change no committed transaction
+aborting-commitments : (ns : List ℕ) (ds : List Deed) → history (aborting ns ds) .commitments ≡ history ds .commitments
+aborting-commitments [] ds = refl
+aborting-commitments (n ∷ ns) ds =
+    split (among n (numbers (history ds .runners)))
+    (λ x. rw x (aborting-commitments ns (Did (Abort n) ∷ ds)))
+    (λ x. rw x (aborting-commitments ns ds))
+
+no-runners : (rs : List Runner) → numbers rs ≡ [] → rs ≡ []
+no-runners [] e = refl
+no-runners (r ∷ rs) e = let z : length (numbers (r ∷ rs)) ≡ 0 = ap length e in absurd (omega arith)
+
+-- a restart takes back no committed transaction but those whose records are lost
+restarted-commitments : (x : ℕ) (ds : List Deed) → history (restarted x ds) .commitments ≡ history (drop x ds) .commitments
+restarted-commitments x ds = aborting-commitments (numbers (history (drop x ds) .runners)) (drop x ds)
+
+-- a restart
+module _ (y : Course) (h : Tied y) (x : ℕ) (l : x ≤ y .since) where
+  pub restarted-lists : (t : ℕ) → y .store .low ≤ t
+      → lists (recovered (lose x (y .store))) t ≡ listIn (history (drop x (y .deeds)) .commitments) t
+  restarted-lists t m =
+      list-same (record { store = recovered (lose x (y .store)); deeds = restarted x (y .deeds); since = 0 }) (tied-restart y h x l) t m
+      ∙ rw (restarted-commitments x (y .deeds))
+
+  pub restarted-runners : history (restarted x (y .deeds)) .runners ≡ []
+  restarted-runners =
+      no-runners (history (restarted x (y .deeds)) .runners)
+      (sym (running-same (record { store = recovered (lose x (y .store)); deeds = restarted x (y .deeds); since = 0 }) (tied-restart y h x l))
+      ∙ running-none (survivors (drop x (y .store .records))) (survivors-none (drop x (y .store .records))))

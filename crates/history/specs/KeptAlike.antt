@@ -1,0 +1,163 @@
+-- Checkpoint and recovery keep whole transactions: two stores that answer alike go on to. Assumes nothing.
+use mathlib.Core.Path.{_≡_, refl, _∙_}
+use mathlib.Core.Bool.{Bool, true, false, not, false≢true}
+use mathlib.Core.List.{List, [], _∷_}
+use Prim.Native.Nat.{ℕ, _<_, _≤_, max}
+use native.Mathlib.Omega.{arith}
+use lib.Dec.{eqb, ltb}
+use borrow.Author.Tests.{eqb-true, eq-eqb, ne-eqb, ltb-false, lt-ltb}
+use Rattle.rules.specs.declared.Record.{Record}
+use Rattle.rules.specs.declared.Value.{Value}
+use Rattle.rules.specs.declared.Effect.the-variants.{Assign, Add}
+use Rattle.rules.specs.Kinds.{isBegin, isCommit, isEnd, begun, assigned, added, committed, aborted}
+use Rattle.rules.specs.Transactions.{any, of, runs, snapshot}
+use Rattle.rules.specs.Times.{last, above}
+use Rattle.rules.specs.Values.{value}
+use Rattle.rules.specs.Checkpoints.{heldBy, held, late, stays, known, sift, kept}
+use Rattle.rules.specs.Recovery.{done}
+use Rattle.rules.specs.Bools.{split, and-left, or-left, or-none-left, or-none-right, not-both, and-false, or-false}
+use Rattle.rules.specs.Running.{not-ended, below}
+use Rattle.versions.specs.Versions.{at}
+use Rattle.history.specs.Good.{begin, update, commit, abort, Good, none, more}
+use Rattle.history.specs.Alike.{Alike}
+use Rattle.history.specs.Kept.{raised, of-kept, above-onto, running-sift, kept-all, runs-sift, of-none, Fitting, fit-none, fit-more, last-low, last-least, last-sift, touched-sift, good-sift, value-sift}
+
+-- a number not yet begun has no records
+pub fresh : {low : ℕ} {rs : List Record} → Good low rs → (n : ℕ) → above 1 rs ≤ n → of n rs ≡ []
+fresh none n l = refl
+fresh (more {older = rs} g (begin m s a b c d e)) n l = rw (ne-eqb m n (omega arith)) (fresh g n (omega arith))
+fresh (more {older = rs} g (update m k (Assign v) a b c)) n l = let u = below 1 m rs (fresh g) a in rw (ne-eqb m n (omega arith)) (fresh g n l)
+fresh (more {older = rs} g (update m k (Add v) a b c)) n l = let u = below 1 m rs (fresh g) a in rw (ne-eqb m n (omega arith)) (fresh g n l)
+fresh (more {older = rs} g (commit m t a b c)) n l = let u = below 1 m rs (fresh g) a in rw (ne-eqb m n (omega arith)) (fresh g n l)
+fresh (more {older = rs} g (abort m a)) n l = let u = below 1 m rs (fresh g) a in rw (ne-eqb m n (omega arith)) (fresh g n l)
+
+-- a commit is the only end of its transaction
+pub record Ending (low T : ℕ) (whole : List Record) (c : Record) : Type 0 where
+  pub ended : any isEnd (of (c .transaction) whole) ≡ true
+  pub settled : any isCommit (of (c .transaction) whole) ≡ true
+  pub lates : any (late T) (of (c .transaction) whole) ≡ ltb T (c .time)
+  pub above-low : low < c .time
+
+-- every commit of these records is such an end
+pub data Ends (low T : ℕ) (whole : List Record) : List Record → Type 0 where
+  e-none : Ends low T whole []
+  e-more : {c : Record} {rs : List Record} → (isCommit c ≡ true → Ending low T whole c) → Ends low T whole rs → Ends low T whole (c ∷ rs)
+
+-- a transaction without an end has no late commit
+not-late : (T : ℕ) (own : List Record) → any isEnd own ≡ false → any (late T) own ≡ false
+not-late T [] h = refl
+not-late T (r ∷ own) h =
+    let c : isCommit r ≡ false = or-none-left (isCommit r) (eqb (r .kind) 5) (or-none-left (isEnd r) (any isEnd own) h) in
+    rw (c, not-late T own (or-none-right (isEnd r) (any isEnd own) h))
+
+module _ (low T : ℕ) where
+  -- a record of a transaction without an end changes nothing for the commits of others
+  ends-more : (r : Record) (whole : List Record) → any isEnd (of (r .transaction) whole) ≡ false → {rs : List Record}
+      → Ends low T whole rs → Ends low T (r ∷ whole) rs
+  ends-more r whole h e-none = e-none
+  ends-more r whole h (e-more {c = c} p e) =
+      e-more {c = c}
+      (λ x.
+      let q = p x in
+      let d : eqb (r .transaction) (c .transaction) ≡ false =
+      split (eqb (r .transaction) (c .transaction)) (λ y. not-both (any isEnd (of (r .transaction) whole))
+      (rw (eqb-true (r .transaction) (c .transaction) y) (q .ended)) h) (λ y. y)
+      in
+      record { ended = rw d (q .ended); settled = rw d (q .settled); lates = rw d (q .lates); above-low = q .above-low })
+      (ends-more r whole h e)
+
+  -- a commit of a good journal is the only end of its transaction
+  pub ends : {rs : List Record} → Good low rs → Ends low T rs rs
+  ends none = e-none
+  ends (more {older = rs} g (begin n s a b c d e)) = e-more (λ x. absurd (false≢true x)) (ends-more (begun n s) rs (rw (fresh g n a)) (ends g))
+  ends (more {older = rs} g (update n k (Assign v) a b c)) = e-more (λ x. absurd (false≢true x))
+      (ends-more (assigned n k v) rs (not-ended (of n rs) a) (ends g))
+  ends (more {older = rs} g (update n k (Add v) a b c)) = e-more (λ x. absurd (false≢true x)) (ends-more (added n k v) rs (not-ended (of n rs) a) (ends g))
+  ends (more {older = rs} g (commit n t a b c)) =
+      let o = not-ended (of n rs) a in
+      let q = eq-eqb n n refl in
+      e-more {c = committed n t}
+      (λ x. record { ended = rw q; settled = rw q; lates = rw (q, not-late T (of n rs) o, or-false (ltb T t)); above-low = omega (arith, last-least low rs) })
+      (ends-more (committed n t) rs o (ends g))
+  ends (more {older = rs} g (abort n a)) = e-more (λ x. absurd (false≢true x)) (ends-more (aborted n) rs (not-ended (of n rs) a) (ends g))
+
+  -- a checkpoint keeps a commit exactly if it is later than T
+  fit-stays : (whole : List Record) {rs : List Record} → Ends low T whole rs → Fitting (stays T whole) T rs
+  fit-stays whole e-none = fit-none
+  fit-stays whole (e-more {c = c} p e) = fit-more {r = c} (λ x. rw (p x .ended, and-false) (p x .lates)) (fit-stays whole e)
+
+-- recovery keeps every commit
+pub fit-done : (low : ℕ) (whole : List Record) {rs : List Record} → Ends low low whole rs → Fitting (done whole) low rs
+fit-done low whole e-none = fit-none
+fit-done low whole (e-more {c = c} p e) = fit-more {r = c} (λ x. rw (p x .settled, lt-ltb low (c .time) (p x .above-low))) (fit-done low whole e)
+
+-- the snapshots that T does not pass stay
+raised-not : (T n : ℕ) {low : ℕ} {rs : List Record} → Good low rs → T ≤ snapshot n rs → raised T (of n rs) ≡ of n rs
+raised-not T n none l = refl
+raised-not T n (more {older = rs} g (begin m s a b c d e)) l =
+    split (eqb m n)
+    (λ x. let q = eqb-true m n x in let f = fresh g n (omega arith) in let l2 : T ≤ s = rw (x, f) at l in let z : max T s ≡ s = omega arith in rw (x, f, z))
+    (λ x. rw x (raised-not T n g (rw x at l)))
+raised-not T n (more {older = rs} g (update m k (Assign v) a b c)) l = split (eqb m n) (λ x. rw (x, raised-not T n g (rw x at l)))
+    (λ x. rw x (raised-not T n g (rw x at l)))
+raised-not T n (more {older = rs} g (update m k (Add v) a b c)) l = split (eqb m n) (λ x. rw (x, raised-not T n g (rw x at l)))
+    (λ x. rw x (raised-not T n g (rw x at l)))
+raised-not T n (more {older = rs} g (commit m t a b c)) l = split (eqb m n) (λ x. rw (x, raised-not T n g (rw x at l)))
+    (λ x. rw x (raised-not T n g (rw x at l)))
+raised-not T n (more {older = rs} g (abort m a)) l = split (eqb m n) (λ x. rw (x, raised-not T n g (rw x at l))) (λ x. rw x (raised-not T n g (rw x at l)))
+
+-- T is not above the snapshot of a running transaction
+pub not-held : (T n : ℕ) (whole rs : List Record) → any isBegin (of n rs) ≡ true → any (heldBy T whole) rs ≡ false → runs n whole ≡ true → T ≤ snapshot n whole
+not-held T n whole [] b h u = absurd (false≢true b)
+not-held T n whole (r ∷ rs) b h u =
+    let h1 = or-none-left (heldBy T whole r) (any (heldBy T whole) rs) h in
+    let h2 = or-none-right (heldBy T whole r) (any (heldBy T whole) rs) h in
+    split (eqb (r .transaction) n)
+    (λ x.
+    split (isBegin r)
+    (λ y. ltb-false (snapshot n whole) T (rw (y, eqb-true (r .transaction) n x, u) at h1))
+    (λ y. not-held T n whole rs (rw (x, y) at b) h2 u))
+    (λ x. not-held T n whole rs (rw x at b) h2 u)
+
+-- a good journal has known kinds only
+good-known : {low : ℕ} {rs : List Record} → Good low rs → known rs ≡ rs
+good-known none = refl
+good-known (more g (begin n s a b c d e)) = rw (good-known g)
+good-known (more g (update n k (Assign v) a b c)) = rw (good-known g)
+good-known (more g (update n k (Add v) a b c)) = rw (good-known g)
+good-known (more g (commit n t a b c)) = rw (good-known g)
+good-known (more g (abort n a)) = rw (good-known g)
+
+-- what is kept answers as before
+module _ (low fa fb : ℕ) (va vb : ℕ → Value) (a b : List Record) (h : Alike low fa fb va vb a b) (g : Good low a) where
+  -- for any choice of kept transactions that fits
+  pub alike-sift : (K : ℕ → Bool) (T : ℕ) (vc : ℕ → Value) → low ≤ T → T ≤ last low a → Fitting K T a → ((n : ℕ) → runs n a ≡ true → K n ≡ true)
+      → ((n : ℕ) → runs n a ≡ true → T ≤ snapshot n a) → ((k : ℕ) → 1 ≤ k → vc k ≡ value (va k) k T a)
+      → Alike T (above fa a) fb vc vb (sift K T a) b
+  alike-sift K T vc l m f keeps below vals =
+      record {
+        lasts = rw (last-sift K T l g f, last-low low T b l, h .lasts);
+        aboves = above-onto T K fa (above fa a) a (omega arith) ∙ h .aboves;
+        runnings = running-sift T K a a ∙ kept-all T K a a (λ n x. x) keeps ∙ h .runnings;
+        run = λ n. runs-sift T K n a (keeps n) ∙ h .run n;
+        own =
+            λ n u.
+            let v : runs n a ≡ true = rw (runs-sift T K n a (keeps n)) at u in
+            of-kept T K n (keeps n v) a ∙ raised-not T n g (below n v) ∙ h .own n v;
+        values = λ k t i j. value-sift K T (va k) (vc k) k t j g f (vals k i) ∙ h .values k t i (omega arith);
+        touches = λ s k j. touched-sift K T a s k j f ∙ h .touches s k (omega arith);
+        freshA = λ n i. of-none T K n a (h .freshA n (rw (above-onto T K fa (above fa a) a (omega arith)) at i));
+        freshB = h .freshB;
+      }
+
+  -- for what a checkpoint keeps
+  pub alike-checkpoint : (T : ℕ) (vc : ℕ → Value) → low ≤ T → T ≤ last low a → held T a ≡ false → ((k : ℕ) → 1 ≤ k → vc k ≡ value (va k) k T a)
+      → Alike T (above fa a) fb vc vb (kept T a) b
+  alike-checkpoint T vc l m n vals =
+      rw (good-known g)
+      (alike-sift (stays T a) T vc l m (fit-stays low T a (ends low T g)) (λ i u. or-left (runs i a) (any (late T) (of i a)) u)
+      (λ i u. not-held T i a a (and-left (any isBegin (of i a)) (not (any isEnd (of i a))) u) n u) vals)
+
+-- what a checkpoint keeps is a good journal
+pub good-checkpoint : {low : ℕ} {a : List Record} → Good low a → (T : ℕ) → low ≤ T → Good T (kept T a)
+good-checkpoint {low} {a} g T l = rw (good-known g) (good-sift (stays T a) T l g (fit-stays low T a (ends low T g)))

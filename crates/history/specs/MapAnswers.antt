@@ -1,0 +1,183 @@
+-- The map store refuses and reads as the whole journal of the same deeds. Assumes nothing.
+use mathlib.Core.Path.{_≡_, refl, ap, sym, _∙_}
+use mathlib.Core.Bool.{Bool, true, _&&_}
+use mathlib.Core.List.{List, [], _∷_}
+use Prim.Native.Nat.{ℕ, _≤_}
+use native.Mathlib.Omega.{arith}
+use lib.Dec.{eqb}
+use borrow.Author.Tests.{eqb-true}
+use Rattle.rules.specs.declared.Record.{Record}
+use Rattle.rules.specs.declared.Effect.{Effect}
+use Rattle.rules.specs.declared.Effect.the-variants.{Assign, Add}
+use Rattle.rules.specs.Kinds.{isUpdate, assigned, added}
+use Rattle.rules.specs.Transactions.{any, of, runs, snapshot, wrote, keysWritten}
+use Rattle.rules.specs.Values.{Row, readIn}
+use Rattle.rules.specs.Lists.{among, rowKeys}
+use Rattle.rules.specs.Conflicts.{touched, conflict}
+use Rattle.rules.specs.Checkpoints.{held}
+use Rattle.rules.specs.Recovery.{mayWrite}
+use Rattle.rules.specs.Calls.{Store, nextOf, Begin, Update, Abort, Commit, refusal}
+use Rattle.rules.specs.Bools.{split, or-right, not-both}
+use Rattle.rules.specs.Columns.{length-keys}
+use Rattle.slot.specs.Places.{Place, taken, placeOf, holds}
+use Rattle.versions.specs.declared.Version.{Version}
+use Rattle.versions.specs.Versions.{at, later}
+use Rattle.map_store.specs.Meaning.{MapStore, clash, readAt, abortRefusal, updateRefusal, commitRefusal}
+use Rattle.history.specs.History.{Deed, Did, Checkpointed}
+use Rattle.history.specs.Refusals.{anyOf}
+use Rattle.history.specs.KeptAlike.{fresh, not-held}
+use Rattle.history.specs.RefusedAlike.{snapshot-last, hold-none, begun-of}
+use Rattle.history.specs.Numbers.{above-top}
+use Rattle.history.specs.Replayed.{replayed, whole}
+use Rattle.history.specs.Allowed.{refused, Allowed, may-begin, may-update, may-abort, may-commit, may-checkpoint, allowed}
+use Rattle.history.specs.Lawful.{Lawful, start, went, Sound, sound-last, sound}
+use Rattle.history.specs.Maps.{mapRefused, mapDid, mapped, mapAccepts}
+use Rattle.history.specs.MapPlaces.{has-among, wrote-among, holds-not, holds-none}
+use Rattle.history.specs.MapAgrees.{Says, idle, busy, Agree, Sane, agree-begin, agree-abort, agree-commit, current-is, agree-update, agree-checkpoint}
+use Rattle.map_store.specs.Meaning as map
+
+-- a key that passes
+any-among : (p : ℕ → Bool) (k : ℕ) (ks : List ℕ) → among k ks ≡ true → p k ≡ true → anyOf p ks ≡ true
+any-among p k [] h e = h
+any-among p k (j ∷ ks) h e =
+    split (eqb j k) (λ x. rw (eqb-true j k x, e)) (λ x. or-right (p j) (anyOf p ks) (any-among p k ks (rw x at h) e))
+
+-- the keys that a transaction wrote, and its update records
+any-keys : (p : ℕ → Bool) (own : List Record) → anyOf p (keysWritten own) ≡ any (λ r. isUpdate r && p (r .key)) own
+any-keys p [] = refl
+any-keys p (r ∷ own) =
+    split (isUpdate r)
+    (λ u.
+    split (wrote (r .key) own)
+    (λ w.
+    split (p (r .key))
+    (λ e. rw (u, w, e) (any-among p (r .key) (keysWritten own) (wrote-among (r .key) own ∙ w) e))
+    (λ e. rw (u, w, e) (any-keys p own)))
+    (λ w. rw (u, w, any-keys p own)))
+    (λ u. rw u (any-keys p own))
+
+-- a clash is a later version of some key
+clash-keys : (s : ℕ) (rows : List Row) (vs : List Version) (p : ℕ → Bool) → ((k : ℕ) → later s k vs ≡ p k) → clash s rows vs ≡ anyOf p (rowKeys rows)
+clash-keys s [] vs p h = refl
+clash-keys s (r ∷ rows) vs p h = rw (h (r .key), clash-keys s rows vs p h)
+
+module _ (m : MapStore) (h : Store) (a : Agree m (h .low) (h .records)) (g : Sane (h .low) (h .records)) (one : h .floor ≡ 1) where
+  -- the next number
+  next-same : nextOf h ≡ m .next
+  next-same = rw (one, a .nexts) (let z = g .capped in omega arith)
+
+  -- the map's conflict is rule 3.6's
+  clash-same : (n s : ℕ) (rows : List Row) → runs n (h .records) ≡ true → s ≡ snapshot n (h .records)
+      → rowKeys rows ≡ keysWritten (of n (h .records)) → clash s rows (m .versions) ≡ conflict n (h .records)
+  clash-same n s rows u v keys =
+      let z = snapshot n (h .records) in
+      rw v
+      (clash-keys z rows (m .versions) (λ k. touched (h .records) z k (h .records)) (λ k. a .touches z k (g .from n u))
+      ∙ ap (anyOf (λ k. touched (h .records) z k (h .records))) keys
+      ∙ any-keys (λ k. touched (h .records) z k (h .records)) (of n (h .records)))
+
+  -- a snapshot, by its place
+  snap-told : (T n : ℕ) (p : Place) → Says (h .records) n p → runs n (h .records) ≡ true
+      → ((s : ℕ) (rows : List Row) → p ≡ taken n s rows → T ≤ s) → T ≤ snapshot n (h .records)
+  snap-told T n p (idle u) r f = not-both (runs n (h .records)) r u
+  snap-told T n p (busy s rows u v keys w) r f = rw (← v) (f s rows refl)
+
+  -- a place, by its snapshot
+  place-told : (T n : ℕ) (p : Place) → Says (h .records) n p → (s : ℕ) (rows : List Row) → p ≡ taken n s rows
+      → (runs n (h .records) ≡ true → T ≤ snapshot n (h .records)) → T ≤ s
+  place-told T n p (idle u) s rows e f = let z : _≡_ {A = ℕ} 0 1 = cc in absurd (omega arith)
+  place-told T n p (busy s2 rows2 u v keys w) s rows e f = let z : s2 ≡ s = cc in let y = f u in omega (arith, v, z, y)
+
+  -- a place holds T exactly if a running snapshot does
+  holds-same : (T : ℕ) → holds T (m .places) ≡ held T (h .records)
+  holds-same T =
+      split (held T (h .records))
+      (λ x.
+      split (holds T (m .places))
+      (λ y. y ∙ sym x)
+      (λ y.
+      not-both (held T (h .records)) x
+      (hold-none T (h .records) (h .records)
+      (λ n u. snap-told T n (placeOf n (m .places)) (a .says n) u (λ s rows e. holds-none T n (m .places) n s rows y e)))))
+      (λ x.
+      rw x
+      (holds-not T (m .places) (a .single)
+      (λ n s rows e. place-told T n (placeOf n (m .places)) (a .says n) s rows e
+      (λ u. not-held T n (h .records) (h .records) (begun-of n (h .records) u) x u))))
+
+  -- an update's refusal
+  update-same : (n k : ℕ) (e : Effect) (p : Place) → Says (h .records) n p → updateRefusal k p ≡ refusal (Update n k e) h
+  update-same n k e p (idle u) = rw u
+  update-same n k e p (busy s rows u v keys w) =
+      rw (u, has-among k rows, ← length-keys rows, keys, wrote-among k (of n (h .records)))
+      (split (mayWrite n k (h .records)) (λ x. rw x) (λ x. rw x))
+
+  -- an abort's refusal
+  abort-same : (n : ℕ) (p : Place) → Says (h .records) n p → abortRefusal p ≡ refusal (Abort n) h
+  abort-same n p (idle u) = rw u
+  abort-same n p (busy s rows u v keys w) = rw u
+
+  -- a commit's refusal
+  commit-same : (n t : ℕ) (p : Place) → Says (h .records) n p → commitRefusal t m p ≡ refusal (Commit n t) h
+  commit-same n t p (idle u) = rw u
+  commit-same n t p (busy s rows u v keys w) = rw (u, a .lasts, clash-same n s rows u v keys)
+
+  -- the map refuses what the whole journal would
+  pub map-refused : (d : Deed) → mapRefused d m ≡ refused d h
+  map-refused (Did (Begin t)) = rw (next-same, a .lows, a .lasts, a .count)
+  map-refused (Did (Update n k e)) = update-same n k e (placeOf n (m .places)) (a .says n)
+  map-refused (Did (Abort n)) = abort-same n (placeOf n (m .places)) (a .says n)
+  map-refused (Did (Commit n t)) = commit-same n t (placeOf n (m .places)) (a .says n)
+  map-refused (Checkpointed t) = rw (a .lows, a .lasts, holds-same t)
+
+  -- one deed more
+  agree-deed : {d : Deed} → Allowed h d → Agree (mapDid d m) (replayed d h .low) (replayed d h .records)
+  agree-deed (may-begin t p q u v) = rw next-same (agree-begin m (h .low) (h .records) a g t u)
+  agree-deed (may-update n k (Assign v) p q u) = agree-update m (h .low) (h .records) a g (assigned n k v) p refl refl refl refl q
+  agree-deed (may-update n k (Add v) p q u) = agree-update m (h .low) (h .records) a g (added n k v) p refl refl refl refl q
+  agree-deed (may-abort n p) = agree-abort m (h .low) (h .records) a g n p
+  agree-deed (may-commit n t p q u) = agree-commit m (h .low) (h .records) a g n p t q u
+  agree-deed (may-checkpoint t p q u) = agree-checkpoint m (h .low) (h .records) a g t p q
+
+-- lawful deeds give the map what it needs to know
+pub sane : (h : Store) → Sound h → Sane (h .low) (h .records)
+sane h w =
+    record {
+      fresh = fresh (w .good);
+      from = w .from;
+      upto = λ n u. rw (sound-last h w) (snapshot-last (w .good) n (begun-of n (h .records) u));
+      capped = above-top 1 (omega arith) (w .good);
+    }
+
+-- the map agrees with the whole journal
+pub agree : {ds : List Deed} → Lawful ds → Agree (mapped ds) (whole ds .low) (whole ds .records)
+agree start =
+    record {
+      lows = refl;
+      lasts = refl;
+      nexts = refl;
+      says = λ n. idle refl;
+      single = refl;
+      eight = refl;
+      count = refl;
+      values = λ k t i l. refl;
+      touches = λ s k l. refl;
+      orders = refl;
+    }
+agree (went {d = d} {ds = ds} l e) = agree-deed (mapped ds) (whole ds) (agree l) (sane (whole ds) (sound l)) (sound l .one) (allowed (whole ds) d e)
+
+-- a map that is given lawful deeds refuses none of them
+pub map-accepts : {ds : List Deed} → Lawful ds → mapAccepts ds ≡ true
+map-accepts start = refl
+map-accepts (went {d = d} {ds = ds} l e) =
+    rw (map-refused (mapped ds) (whole ds) (agree l) (sane (whole ds) (sound l)) (sound l .one) d, e) (map-accepts l)
+
+-- a read in the map is a read in the whole journal
+pub map-read : {ds : List Deed} → Lawful ds → (n k : ℕ) → runs n (whole ds .records) ≡ true → 1 ≤ k
+    → map.readIn n k (mapped ds) ≡ readIn [] (whole ds .records) n k
+map-read {ds} l n k u i = go (placeOf n (mapped ds .places)) (agree l .says n)
+  where
+    go : (p : Place) → Says (whole ds .records) n p → readAt k p (mapped ds .versions) ≡ readIn [] (whole ds .records) n k
+    go p (idle x) = not-both (runs n (whole ds .records)) u x
+    go p (busy s rows x v keys w) =
+        current-is (mapped ds) (whole ds .low) (whole ds .records) (agree l) (sane (whole ds) (sound l)) n k s rows i x v keys (w k i)

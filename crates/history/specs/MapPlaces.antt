@@ -1,0 +1,226 @@
+-- The rows of a transaction in the map store, and the eight places: what noting, opening and amending change. Assumes nothing.
+use mathlib.Core.Path.{_≡_, refl, ap, sym, _∙_}
+use mathlib.Core.Bool.{Bool, true, false, cond, not, _&&_, true≢false, false≢true}
+use mathlib.Core.List.{List, [], _∷_}
+use Prim.Native.Nat.{ℕ, suc, _<_, _≤_}
+use native.Mathlib.Omega.{arith}
+use lib.Dec.{eqb, ltb}
+use lib.ListN.{length}
+use borrow.Author.Tests.{eqb-true, eqb-false, eq-eqb, ne-eqb, ltb-false, le-ltb, not-true}
+use Rattle.rules.specs.declared.Record.{Record}
+use Rattle.rules.specs.declared.Value.the-variants.{Present}
+use Rattle.rules.specs.Kinds.{isUpdate}
+use Rattle.rules.specs.Transactions.{wrote, keysWritten}
+use Rattle.rules.specs.Values.{Row}
+use Rattle.rules.specs.Lists.{among, rowKeys}
+use Rattle.rules.specs.Bools.{split, and-left, and-right, or-none-left, or-none-right, not-both, or-false}
+use Rattle.slot.specs.Places.{Place, free, taken, hasKey, runningValue, reset, note, placeOf, openIn, amend, occupied, holds}
+use Rattle.versions.specs.Versions.{at}
+use Rattle.map_store.specs.Meaning.{firsts}
+use Rattle.history.specs.MapVersions.{or-absent, first-has}
+
+-- a key stands in the rows exactly if it is among their keys
+pub has-among : (k : ℕ) (rows : List Row) → hasKey k rows ≡ among k (rowKeys rows)
+has-among k [] = refl
+has-among k (r ∷ rows) = rw (has-among k rows)
+
+-- a key is among those written exactly if it was written
+pub wrote-among : (k : ℕ) (own : List Record) → among k (keysWritten own) ≡ wrote k own
+wrote-among k [] = refl
+wrote-among k (r ∷ own) =
+    let i = wrote-among k own in
+    split (isUpdate r)
+    (λ u.
+    split (wrote (r .key) own)
+    (λ w. rw (u, w) (split (eqb (r .key) k) (λ e. rw (e, i, ← eqb-true (r .key) k e, w)) (λ e. rw (e, i))))
+    (λ w. rw (u, w, i)))
+    (λ u. rw (u, i))
+
+-- a row that gets another value keeps its key
+reset-keys : (k v : ℕ) (rows : List Row) → rowKeys (reset k v rows) ≡ rowKeys rows
+reset-keys k v [] = refl
+reset-keys k v (r ∷ rows) =
+    split (hasKey k rows) (λ h. rw (h, reset-keys k v rows)) (λ h. rw h (split (eqb (r .key) k) (λ e. rw (e, eqb-true (r .key) k e)) (λ e. rw e)))
+
+-- the running values after a reset
+reset-first : (j k v : ℕ) (rows : List Row) → hasKey k rows ≡ true → runningValue j (reset k v rows) ≡ cond (eqb k j) (Present v) (runningValue j rows)
+reset-first j k v [] h = absurd (false≢true h)
+reset-first j k v (r ∷ rows) h =
+    split (hasKey k rows)
+    (λ x. rw (x, reset-first j k v rows x) (split (eqb k j) (λ e. rw e) (λ e. rw e)))
+    (λ x.
+    let y : eqb (r .key) k ≡ true = rw (x, or-false (eqb (r .key) k)) at h in
+    rw (x, y)
+    (split (eqb k j)
+    (λ e. let x2 : hasKey j rows ≡ false = rw (eqb-true k j e) at x in rw (e, first-has j rows x2))
+    (λ e. rw (eqb-true (r .key) k y, e))))
+
+-- the keys after a note
+pub note-keys : (k v : ℕ) (rows : List Row) → rowKeys (note k v rows) ≡ cond (hasKey k rows) (rowKeys rows) (k ∷ rowKeys rows)
+note-keys k v rows = split (hasKey k rows) (λ h. rw (h, reset-keys k v rows)) (λ h. rw h)
+
+-- the running values after a note
+pub note-first : (j k v : ℕ) (rows : List Row) → runningValue j (note k v rows) ≡ cond (eqb k j) (Present v) (runningValue j rows)
+note-first j k v rows =
+    split (hasKey k rows)
+    (λ h. rw h (reset-first j k v rows h))
+    (λ h.
+    rw h
+    (split (eqb k j)
+    (λ e. let h2 : hasKey j rows ≡ false = rw (eqb-true k j e) at h in rw (e, first-has j rows h2))
+    (λ e. rw (e, or-absent (runningValue j rows)))))
+
+-- no key twice
+abbrev distinct : List ℕ → Bool
+distinct [] = true
+distinct (k ∷ ks) = not (among k ks) && distinct ks
+
+-- a transaction wrote each key once
+keys-distinct : (own : List Record) → distinct (keysWritten own) ≡ true
+keys-distinct [] = refl
+keys-distinct (r ∷ own) =
+    split (isUpdate r)
+    (λ u.
+    split (wrote (r .key) own)
+    (λ w. rw (u, w) (keys-distinct own))
+    (λ w. rw (u, w, wrote-among (r .key) own, w) (keys-distinct own)))
+    (λ u. rw u (keys-distinct own))
+
+-- all rows count where no key stands twice
+firsts-all : (rows : List Row) → distinct (rowKeys rows) ≡ true → firsts rows ≡ rows
+firsts-all [] h = refl
+firsts-all (r ∷ rows) h =
+    let a = not-true (among (r .key) (rowKeys rows)) (and-left (not (among (r .key) (rowKeys rows))) (distinct (rowKeys rows)) h) in
+    rw (has-among (r .key) rows, a, firsts-all rows (and-right (not (among (r .key) (rowKeys rows))) (distinct (rowKeys rows)) h))
+
+-- all rows count where they have the keys that a transaction wrote
+pub firsts-written : (rows : List Row) (own : List Record) → rowKeys rows ≡ keysWritten own → firsts rows ≡ rows
+firsts-written rows own e = firsts-all rows (rw e (keys-distinct own))
+
+-- places
+abbrev pub isFree : Place → Bool
+isFree free = true
+isFree (taken n s rows) = false
+
+-- no number has two places
+abbrev pub once : List Place → Bool
+once [] = true
+once (free ∷ ps) = once ps
+once (taken n s rows ∷ ps) = isFree (placeOf n ps) && once ps
+
+-- a free place
+is-free : (p : Place) → isFree p ≡ true → p ≡ free
+is-free free e = refl
+is-free (taken n s rows) e = absurd (false≢true e)
+
+-- opening leaves other numbers
+pub open-other : (n s j : ℕ) (ps : List Place) → eqb n j ≡ false → placeOf j (openIn n s ps) ≡ placeOf j ps
+open-other n s j [] h = refl
+open-other n s j (free ∷ ps) h = rw h
+open-other n s j (taken m u rows ∷ ps) h = rw (open-other n s j ps h)
+
+-- a taken place is not free
+not-taken : {A : Type 0} {n s : ℕ} {rows : List Row} → taken n s rows ≡ free → A
+not-taken e = absurd (true≢false (sym (ap isFree e)))
+
+-- a number that has no place
+free-other : (n m u : ℕ) (rows : List Row) (ps : List Place) → placeOf n (taken m u rows ∷ ps) ≡ free → (eqb m n ≡ false) × (placeOf n ps ≡ free)
+free-other n m u rows ps h = split (eqb m n) (λ e. not-taken (rw e at h)) (λ e. (e, rw e at h))
+
+-- the new number has its place
+pub open-same : (n s : ℕ) (ps : List Place) → occupied ps < length ps → placeOf n ps ≡ free → placeOf n (openIn n s ps) ≡ taken n s []
+open-same n s [] l h = absurd (omega arith)
+open-same n s (free ∷ ps) l h = rw (eq-eqb n n refl)
+open-same n s (taken m u rows ∷ ps) l h = let o = free-other n m u rows ps h in rw (o .0) (open-same n s ps (omega arith) (o .1))
+
+-- one more is taken
+pub open-count : (n s : ℕ) (ps : List Place) → occupied ps < length ps → occupied (openIn n s ps) ≡ suc (occupied ps)
+open-count n s [] l = absurd (omega arith)
+open-count n s (free ∷ ps) l = refl
+open-count n s (taken m u rows ∷ ps) l = rw (open-count n s ps (omega arith))
+
+-- there are as many places
+pub open-length : (n s : ℕ) (ps : List Place) → length (openIn n s ps) ≡ length ps
+open-length n s [] = refl
+open-length n s (free ∷ ps) = refl
+open-length n s (taken m u rows ∷ ps) = rw (open-length n s ps)
+
+-- no number gets two places
+pub open-once : (n s : ℕ) (ps : List Place) → placeOf n ps ≡ free → once ps ≡ true → once (openIn n s ps) ≡ true
+open-once n s [] h o = refl
+open-once n s (free ∷ ps) h o = rw h o
+open-once n s (taken m u rows ∷ ps) h o =
+    let f = free-other n m u rows ps h in
+    let e : eqb n m ≡ false = ne-eqb n m (λ x. eqb-false m n (f .0) (sym x)) in
+    rw (open-other n s m ps e, and-left (isFree (placeOf m ps)) (once ps) o) (open-once n s ps (f .1) (and-right (isFree (placeOf m ps)) (once ps) o))
+
+-- a place given up or changed; p is free or n's
+module _ (n : ℕ) (p : Place) (own : (j : ℕ) (ps : List Place) → eqb n j ≡ false → placeOf j (p ∷ ps) ≡ placeOf j ps) where
+  -- other numbers keep their places
+  pub amend-other : (j : ℕ) (ps : List Place) → eqb n j ≡ false → placeOf j (amend n p ps) ≡ placeOf j ps
+  amend-other j [] h = refl
+  amend-other j (free ∷ ps) h = amend-other j ps h
+  amend-other j (taken m u rows ∷ ps) h =
+      split (eqb m n)
+      (λ e. rw (e, own j ps h, eqb-true m n e, h))
+      (λ e. rw (e, amend-other j ps h))
+
+  -- no number gets two places
+  pub amend-once : (once' : (ps : List Place) → isFree (placeOf n ps) ≡ true → once ps ≡ true → once (p ∷ ps) ≡ true)
+      → (ps : List Place) → once ps ≡ true → once (amend n p ps) ≡ true
+  amend-once g [] o = refl
+  amend-once g (free ∷ ps) o = amend-once g ps o
+  amend-once g (taken m u rows ∷ ps) o =
+      let a = and-left (isFree (placeOf m ps)) (once ps) o in
+      let b = and-right (isFree (placeOf m ps)) (once ps) o in
+      split (eqb m n)
+      (λ e. rw e (g ps (rw (eqb-true m n e) at a) b))
+      (λ e. rw (e, amend-other m ps (ne-eqb n m (λ x. eqb-false m n e (sym x))), a) (amend-once g ps b))
+
+-- there are as many places
+pub amend-length : (n : ℕ) (p : Place) (ps : List Place) → length (amend n p ps) ≡ length ps
+amend-length n p [] = refl
+amend-length n p (free ∷ ps) = rw (amend-length n p ps)
+amend-length n p (taken m u rows ∷ ps) = split (eqb m n) (λ e. rw e) (λ e. rw (e, amend-length n p ps))
+
+-- a place changed
+pub amend-taken : (n u : ℕ) (rs : List Row) (ps : List Place) → isFree (placeOf n ps) ≡ false
+    → (placeOf n (amend n (taken n u rs) ps) ≡ taken n u rs) × (occupied (amend n (taken n u rs) ps) ≡ occupied ps)
+amend-taken n u rs [] h = absurd (true≢false h)
+amend-taken n u rs (free ∷ ps) h = amend-taken n u rs ps h
+amend-taken n u rs (taken m s rows ∷ ps) h =
+    split (eqb m n)
+    (λ e. rw (e, eq-eqb n n refl) (refl, refl))
+    (λ e. let i = amend-taken n u rs ps (rw e at h) in rw (e, e) (i .0, rw (i .1)))
+
+-- a place given up
+pub amend-free : (n : ℕ) (ps : List Place) → once ps ≡ true → isFree (placeOf n ps) ≡ false
+    → (placeOf n (amend n free ps) ≡ free) × (suc (occupied (amend n free ps)) ≡ occupied ps)
+amend-free n [] o h = absurd (true≢false h)
+amend-free n (free ∷ ps) o h = amend-free n ps o h
+amend-free n (taken m s rows ∷ ps) o h =
+    split (eqb m n)
+    (λ e. rw e (is-free (placeOf n ps) (rw (eqb-true m n e) at (and-left (isFree (placeOf m ps)) (once ps) o)), refl))
+    (λ e. let i = amend-free n ps (and-right (isFree (placeOf m ps)) (once ps) o) (rw e at h) in rw (e, e) (i .0, rw (i .1)))
+
+-- no snapshot lies below T
+pub holds-not : (T : ℕ) (ps : List Place) → once ps ≡ true → ((n s : ℕ) (rows : List Row) → placeOf n ps ≡ taken n s rows → T ≤ s) → holds T ps ≡ false
+holds-not T [] o h = refl
+holds-not T (free ∷ ps) o h = holds-not T ps o h
+holds-not T (taken m s rows ∷ ps) o h =
+    rw (le-ltb s T (h m s rows (rw (eq-eqb m m refl))))
+    (holds-not T ps (and-right (isFree (placeOf m ps)) (once ps) o)
+    (λ n u rs e.
+    split (eqb m n)
+    (λ x. not-both (isFree (placeOf m ps)) (and-left (isFree (placeOf m ps)) (once ps) o) (ap isFree (ap (λ (j : ℕ). placeOf j ps) (eqb-true m n x) ∙ e)))
+    (λ x. h n u rs (rw x e))))
+
+-- where nothing is held, each snapshot is at least T
+pub holds-none : (T n : ℕ) (ps : List Place) (m s : ℕ) (rows : List Row) → holds T ps ≡ false → placeOf n ps ≡ taken m s rows → T ≤ s
+holds-none T n [] m s rows h e = not-taken (sym e)
+holds-none T n (free ∷ ps) m s rows h e = holds-none T n ps m s rows h e
+holds-none T n (taken j u rs ∷ ps) m s rows h e =
+    let a = or-none-left (ltb u T) (holds T ps) h in
+    split (eqb j n)
+    (λ x. let q : taken j u rs ≡ taken m s rows = rw x at e in let z : u ≡ s = cc in omega (arith, ltb-false u T a))
+    (λ x. holds-none T n ps m s rows (or-none-right (ltb u T) (holds T ps) h) (rw x at e))

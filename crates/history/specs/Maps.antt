@@ -1,0 +1,37 @@
+-- The map store that is given the same deeds as a journal store: the accepted calls and checkpoints, with an abort for each transaction that a restart
+-- ended. Assumes nothing.
+use mathlib.Core.Path.{_≡_}
+use mathlib.Core.Bool.{Bool, true, _&&_}
+use mathlib.Core.List.{List, [], _∷_}
+use Prim.Native.Nat.{ℕ}
+use lib.Dec.{eqb}
+use Rattle.rules.specs.Calls.{Call}
+use Rattle.map_store.specs.Meaning.{MapStore, emptyMap, mapRefusal, mapAnswer, mapAfter}
+use Rattle.history.specs.History.{Deed, Did, Checkpointed}
+use Rattle.map_store.specs.Meaning as map
+
+-- section 6 but for shape and room, for every deed
+abbrev pub mapRefused : Deed → MapStore → ℕ
+mapRefused (Did c) m = mapRefusal c m
+mapRefused (Checkpointed t) m = map.checkpointRefusal t m
+
+-- what a deed makes of it
+abbrev pub mapDid : Deed → MapStore → MapStore
+mapDid (Did c) m = mapAfter c m
+mapDid (Checkpointed t) m = map.checkpointed t m
+
+-- the map store of some deeds, the newest first
+abbrev pub mapped : List Deed → MapStore
+mapped [] = emptyMap
+mapped (d ∷ older) = mapDid d (mapped older)
+
+-- it refuses none of them, room apart
+abbrev pub mapAccepts : List Deed → Bool
+mapAccepts [] = true
+mapAccepts (d ∷ older) = eqb (mapRefused d (mapped older)) 0 && mapAccepts older
+
+-- a map store that was given these deeds with whatever room, and has accepted every one
+pub data Given : List Deed → MapStore → Type 0 where
+  nothing-yet : Given [] emptyMap
+  given-call : {ds : List Deed} {m : MapStore} (room : ℕ) (c : Call) → Given ds m → mapAnswer room c m ≡ 0 → Given (Did c ∷ ds) (mapAfter c m)
+  given-checkpoint : {ds : List Deed} {m : MapStore} (t : ℕ) → Given ds m → map.checkpointRefusal t m ≡ 0 → Given (Checkpointed t ∷ ds) (map.checkpointed t m)

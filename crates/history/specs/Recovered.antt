@@ -1,0 +1,102 @@
+-- What recovery leaves of any journal: nothing runs in it, recovering it again changes nothing, and where the walk accepts the journal, it has the same
+-- last and the same values from low on. Assumes nothing.
+use mathlib.Core.Path.{_≡_, refl, ap, sym, _∙_}
+use mathlib.Core.Bool.{Bool, true, false}
+use mathlib.Core.List.{List, [], _∷_}
+use Prim.Native.Nat.{ℕ, _≤_, max}
+use native.Mathlib.Omega.{arith}
+use lib.Dec.{eqb}
+use borrow.Author.Tests.{eqb-true, ne-eqb}
+use Rattle.rules.specs.declared.Record.{Record}
+use Rattle.rules.specs.declared.Value.{Value}
+use Rattle.rules.specs.Kinds.{isBegin, isCommit, isEnd}
+use Rattle.rules.specs.Transactions.{any, of, runs}
+use Rattle.rules.specs.Times.{last, above, next}
+use Rattle.rules.specs.Values.{value}
+use Rattle.rules.specs.Recovery.{accepts, done, only, survivors}
+use Rattle.rules.specs.Calls.{Store, nextOf}
+use Rattle.rules.specs.Bools.{split, or-right, not-both, and-false}
+use Rattle.versions.specs.Versions.{at}
+use Rattle.history.specs.Sequences.{recovered}
+use Rattle.history.specs.Good.{Good}
+use Rattle.history.specs.Judged.{good-accepts, accepts-good}
+use Rattle.history.specs.Kept.{Fitting, last-least, last-sift, value-sift}
+use Rattle.history.specs.KeptAlike.{ends, fit-done}
+use Rattle.history.specs.RecoveredAlike.{sift-low, value-low, good-recover}
+use Rattle.history.specs.Numbers.{above-least}
+
+module _ (K : ℕ → Bool) where
+  -- a kept transaction has its records
+  only-kept : (n : ℕ) → K n ≡ true → (rs : List Record) → of n (only K rs) ≡ of n rs
+  only-kept n h [] = refl
+  only-kept n h (r ∷ rs) =
+      split (eqb (r .transaction) n)
+      (λ e. let k : K (r .transaction) ≡ true = ap K (eqb-true (r .transaction) n e) ∙ h in rw (k, e, only-kept n h rs))
+      (λ e. split (K (r .transaction)) (λ f. rw (f, e, only-kept n h rs)) (λ f. rw (f, e, only-kept n h rs)))
+
+  -- a dropped one has none
+  only-dropped : (n : ℕ) → K n ≡ false → (rs : List Record) → of n (only K rs) ≡ []
+  only-dropped n h [] = refl
+  only-dropped n h (r ∷ rs) =
+      split (K (r .transaction))
+      (λ f.
+      rw (f, ne-eqb (r .transaction) n (λ q. not-both (K n) (sym (ap K q) ∙ f) h), only-dropped n h rs))
+      (λ f. rw (f, only-dropped n h rs))
+
+  -- what is kept is kept again
+  only-again : (J : ℕ → Bool) → ((n : ℕ) → K n ≡ true → J n ≡ true) → (rs : List Record) → only J (only K rs) ≡ only K rs
+  only-again J h [] = refl
+  only-again J h (r ∷ rs) = split (K (r .transaction)) (λ e. rw (e, h (r .transaction) e, only-again J h rs)) (λ e. rw (e, only-again J h rs))
+
+  -- numbers only go
+  only-above : (f g : ℕ) (rs : List Record) → above g (only K rs) ≤ max g (above f rs)
+  only-above f g [] = omega arith
+  only-above f g (r ∷ rs) =
+      let i = only-above f g rs in
+      split (isBegin r)
+      (λ b. split (K (r .transaction)) (λ e. rw (e, b) (omega arith)) (λ e. rw (e, b) (omega arith)))
+      (λ b. split (K (r .transaction)) (λ e. rw (e, b) i) (λ e. rw (e, b) i))
+
+-- a committed transaction has an end
+committed-ends : (own : List Record) → any isCommit own ≡ true → any isEnd own ≡ true
+committed-ends [] h = h
+committed-ends (r ∷ own) h =
+    split (isCommit r) (λ c. rw c) (λ c. or-right (isEnd r) (any isEnd own) (committed-ends own (rw c at h)))
+
+-- nothing runs
+pub survivors-none : (rs : List Record) (n : ℕ) → runs n (survivors rs) ≡ false
+survivors-none rs n =
+    split (done rs n)
+    (λ e. rw (only-kept (done rs) n e rs, committed-ends (of n rs) e, and-false))
+    (λ e. rw (only-dropped (done rs) n e rs))
+
+-- recovering again changes nothing
+pub recovered-again : (s : Store) → recovered (recovered s) ≡ recovered s
+recovered-again s =
+    let rs : List Record = s .records in
+    let g : ℕ = nextOf s in
+    let e : survivors (survivors rs) ≡ survivors rs =
+    only-again (done rs) (done (survivors rs)) (λ n h. rw (only-kept (done rs) n h rs) h) rs
+    in
+    let i : next g (survivors rs) ≡ g = omega (arith, only-above (done rs) (s .floor) g rs, above-least g (survivors rs)) in
+    rw (e, i)
+
+-- what the walk accepts keeps its last and its values
+module _ (low : ℕ) (rs : List Record) (h : accepts low rs ≡ true) where
+  good : Good low rs
+  good = accepts-good low rs h
+
+  -- the walk accepts what is left
+  pub survivors-accepted : accepts low (survivors rs) ≡ true
+  survivors-accepted = good-accepts (good-recover good)
+
+  fit : Fitting (done rs) low rs
+  fit = fit-done low rs (ends low low good)
+
+  -- last stays
+  pub survivors-last : last low (survivors rs) ≡ last low rs
+  survivors-last = rw (← sift-low (done rs) good, last-sift (done rs) low (omega arith) good fit) (omega (arith, last-least low rs))
+
+  -- values stay from low on
+  pub survivors-value : (v : Value) (k t : ℕ) → low ≤ t → value v k t (survivors rs) ≡ value v k t rs
+  survivors-value v k t l = rw (← sift-low (done rs) good) (value-sift (done rs) low v v k t l good fit (sym (value-low v k good)))

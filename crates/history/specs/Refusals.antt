@@ -1,0 +1,56 @@
+-- Section 6 from the history alone, but for shape and room: the number that a deed gets, in the order of its tests. Assumes nothing.
+use mathlib.Core.Bool.{Bool, false, cond, not, _&&_, _||_}
+use mathlib.Core.List.{List, [], _∷_}
+use Prim.Native.Nat.{ℕ}
+use lib.Dec.{eqb, leb, ltb}
+use lib.ListN.{length}
+use Rattle.rules.specs.Lists.{among}
+use Rattle.rules.specs.Calls.{Begin, Update, Abort, Commit}
+use Rattle.history.specs.History.{Change, Commitment, Runner, History, Deed, Did, Checkpointed, numbers, changesOf, snapshotOf, latest, changes}
+
+-- some number of a list passes the test
+abbrev pub anyOf : (ℕ → Bool) → List ℕ → Bool
+anyOf p [] = false
+anyOf p (n ∷ ns) = p n || anyOf p ns
+
+-- the distinct keys of some changes
+abbrev pub distinctKeys : List Change → List ℕ
+distinctKeys [] = []
+distinctKeys (c ∷ older) = cond (changes (c .key) older) (distinctKeys older) (c .key ∷ distinctKeys older)
+
+-- a transaction that committed later than s changed k
+abbrev pub changedAfter : List Commitment → ℕ → ℕ → Bool
+changedAfter [] s k = false
+changedAfter (c ∷ older) s k = (ltb s (c .time) && changes k (c .changes)) || changedAfter older s k
+
+-- rule 3.6: some key of these changes was changed by a transaction that committed later than s
+abbrev pub conflicts : List Commitment → ℕ → List Change → Bool
+conflicts cs s [] = false
+conflicts cs s (c ∷ older) = changedAfter cs s (c .key) || conflicts cs s older
+
+-- t is above a running snapshot
+abbrev pub holdsBack : ℕ → List Runner → Bool
+holdsBack t rs = anyOf (λ n. ltb (snapshotOf n rs) t) (numbers rs)
+
+-- the greatest of low and all commit times of a history
+abbrev pub lastIn : History → ℕ
+lastIn h = latest (h .low) (h .commitments)
+
+-- a time below low is too old (4), one above last lies in the future (5)
+abbrev pub timeRefused : ℕ → History → ℕ → ℕ
+timeRefused t h others = cond (ltb t (h .low)) 4 (cond (ltb (lastIn h) t) 5 others)
+
+-- a transaction that does not run is unknown (2)
+abbrev pub unknownOr : ℕ → History → ℕ → ℕ
+unknownOr n h others = cond (not (among n (numbers (h .runners)))) 2 others
+
+abbrev pub refusalIn : Deed → History → ℕ
+refusalIn (Did (Begin t)) h = timeRefused t h (cond (leb 8 (length (h .runners))) 6 (cond (leb 4294967295 (h .next)) 7 0))
+refusalIn (Did (Update n k e)) h =
+    let mine = changesOf n (h .runners) in
+    unknownOr n h (cond (eqb k 0) 3 (cond (not (changes k mine || ltb (length (distinctKeys mine)) 32)) 8 0))
+refusalIn (Did (Abort n)) h = unknownOr n h 0
+refusalIn (Did (Commit n t)) h =
+    unknownOr n h
+    (cond (leb t (lastIn h)) 10 (cond (conflicts (h .commitments) (snapshotOf n (h .runners)) (changesOf n (h .runners))) 11 0))
+refusalIn (Checkpointed t) h = timeRefused t h (cond (holdsBack t (h .runners)) 9 0)

@@ -1,0 +1,287 @@
+-- The invariant of every sequence: the store answers as the whole journal of its deeds, and its own journal is one that the walk accepts, also where
+-- the newest records since the latest checkpoint, restart or start are cut off. Assumes nothing.
+use mathlib.Core.Path.{_≡_, refl, ap, sym, _∙_, subst}
+use mathlib.Core.Bool.{true, false≢true}
+use mathlib.Core.List.{List, [], _∷_}
+use Prim.Native.Nat.{ℕ, zero, suc, _+_, _≤_, min}
+use native.Mathlib.Omega.{arith}
+use lib.Dec.{eqb}
+use lib.ListN.{length, drop}
+use borrow.Author.Tests.{eqb-true}
+use Rattle.rules.specs.declared.Record.{Record}
+use Rattle.rules.specs.declared.Value.{Value}
+use Rattle.rules.specs.declared.Value.the-variants.{Absent}
+use Rattle.rules.specs.declared.Effect.the-variants.{Assign, Add}
+use Rattle.rules.specs.Kinds.{isBegin, begun, assigned, added, committed, aborted}
+use Rattle.rules.specs.Transactions.{runs, running}
+use Rattle.rules.specs.Times.{above, next}
+use Rattle.rules.specs.Values.{rowValue}
+use Rattle.rules.specs.Lists.{rising, listAt}
+use Rattle.rules.specs.Checkpoints.{kept}
+use Rattle.rules.specs.Recovery.{survivors}
+use Rattle.rules.specs.Calls.{Store, nextOf, Call, Begin, Update, Abort, Commit, recordOf, refusal, checkpointRefusal, need, answer, checkpointAnswer, push, checkpointed}
+use Rattle.rules.specs.Bools.{split}
+use Rattle.rules.specs.Listing.{list-lists}
+use Rattle.history.specs.History.{Deed, Did, Checkpointed, numbers, history, restarted}
+use Rattle.history.specs.Sequences.{Event, Called, Checkpoint, Restart, Course, lose, recovered, happen, reached}
+use Rattle.history.specs.Good.{Step, begin, update, commit, abort, Good, none, more}
+use Rattle.history.specs.Judged.{good-accepts}
+use Rattle.history.specs.Alike.{Alike, alike-begin, alike-update, alike-abort, alike-commit}
+use Rattle.history.specs.KeptAlike.{alike-checkpoint, good-checkpoint}
+use Rattle.history.specs.RecoveredAlike.{good-recover, alike-recover}
+use Rattle.history.specs.RefusedAlike.{conflict-same, held-same}
+use Rattle.history.specs.Numbers.{above-mono, above-least, above-top}
+use Rattle.history.specs.Replayed.{whole, whole-floor}
+use Rattle.history.specs.Allowed.{refused, Allowed, may-begin, may-update, may-abort, may-commit, may-checkpoint, allowed, has-room}
+use Rattle.history.specs.Lawful.{Lawful, start, went, lawful-drop}
+use Rattle.history.specs.Told.{tells, lawful-aborting, whole-aborting, low-aborting}
+
+-- the records written since, and the deeds that wrote them: `i` of them
+pub data Since (low f : ℕ) (mark : List Record) (past : List Deed) : ℕ → List Record → List Deed → Type 0 where
+  marked : Since low f mark past 0 mark past
+  grown : {i : ℕ} {a : List Record} {ds : List Deed} (r : Record) (d : Deed) → Since low f mark past i a ds → Step low a r
+      → (isBegin r ≡ true → above f a ≤ r .transaction) → whole (d ∷ ds) ≡ push r (whole ds) → Since low f mark past (suc i) (r ∷ a) (d ∷ ds)
+
+module _ (low f fb : ℕ) (va vb : ℕ → Value) where
+  -- two journals stay alike when the same step is written in both
+  alike-step : (a b : List Record) (r : Record) → Alike low f fb va vb a b → Step low a r → (isBegin r ≡ true → above f a ≤ r .transaction)
+      → Alike low f fb va vb (r ∷ a) (r ∷ b)
+  alike-step a b r h (begin n s x y z v w) p = alike-begin low f fb va vb a b h n s (p refl)
+  alike-step a b r h (update n k (Assign v) x y z) p = alike-update low f fb va vb a b h (assigned n k v) x refl refl refl
+  alike-step a b r h (update n k (Add v) x y z) p = alike-update low f fb va vb a b h (added n k v) x refl refl refl
+  alike-step a b r h (commit n t x y z) p = alike-commit low f fb va vb a b h n x t
+  alike-step a b r h (abort n x) p = alike-abort low f fb va vb a b h n x
+
+  -- and so does all that was written since
+  alike-since : {mark : List Record} {past : List Deed} {i : ℕ} {a : List Record} {ds : List Deed} → Alike low f fb va vb mark (whole past .records)
+      → Since low f mark past i a ds → Alike low f fb va vb a (whole ds .records)
+  alike-since h marked = h
+  alike-since h (grown {a = a} {ds = ds} r d s x p e) =
+      subst (λ (st : Store). Alike low f fb va vb (r ∷ a) (st .records)) (sym e) (alike-step a (whole ds .records) r (alike-since h s) x p)
+
+module _ {low f : ℕ} {mark : List Record} {past : List Deed} where
+  -- low stays
+  low-since : {i : ℕ} {a : List Record} {ds : List Deed} → whole past .low ≡ low → Since low f mark past i a ds → whole ds .low ≡ low
+  low-since h marked = h
+  low-since h (grown r d s x p e) = ap (λ (st : Store). st .low) e ∙ low-since h s
+
+  -- the journal stays good
+  good-since : {i : ℕ} {a : List Record} {ds : List Deed} → Good low mark → Since low f mark past i a ds → Good low a
+  good-since g marked = g
+  good-since g (grown r d s x p e) = more (good-since g s) x
+
+  -- a cut since the mark
+  since-lost : {i : ℕ} {a : List Record} {ds : List Deed} (x : ℕ) → x ≤ i → Since low f mark past i a ds
+      → (j : ℕ) × Since low f mark past j (drop x a) (drop x ds)
+  since-lost {i = i} zero l s = (i, s)
+  since-lost (suc x) l marked = absurd (omega arith)
+  since-lost (suc x) l (grown r d s y p e) = since-lost x (omega arith) s
+
+-- the journal and the deeds as they stood at the mark, and what was done since
+pub record Tied (y : Course) : Type 0 where
+  pub mark : List Record
+  pub past : List Deed
+  pub alike : Alike (y .store .low) (y .store .floor) 1 (rowValue (y .store .base)) (λ k. Absent) mark (whole past .records)
+  pub good : Good (y .store .low) mark
+  pub since : Since (y .store .low) (y .store .floor) mark past (y .since) (y .store .records) (y .deeds)
+  pub lows : whole past .low ≡ y .store .low
+  pub floored : 1 ≤ y .store .floor
+  pub capped : y .store .floor ≤ 4294967295
+  pub sorted : rising 0 (y .store .base) ≡ true
+  pub lawful : Lawful (y .deeds)
+
+-- the store after a cut of the newest x records, and the whole journal of the deeds that are left
+module _ (y : Course) (h : Tied y) (x : ℕ) (l : x ≤ y .since) where
+  -- what is left is good
+  pub cut-good : Good (y .store .low) (drop x (y .store .records))
+  cut-good = good-since (h .good) (since-lost x l (h .since) .1)
+
+  -- and answers as the whole journal of the deeds that are left
+  cut-alike : Alike (y .store .low) (y .store .floor) 1 (rowValue (y .store .base)) (λ k. Absent) (drop x (y .store .records)) (whole (drop x (y .deeds)) .records)
+  cut-alike = alike-since (y .store .low) (y .store .floor) 1 (rowValue (y .store .base)) (λ k. Absent) (h .alike) (since-lost x l (h .since) .1)
+
+  -- low
+  cut-low : whole (drop x (y .deeds)) .low ≡ y .store .low
+  cut-low = low-since (h .lows) (since-lost x l (h .since) .1)
+
+  -- the next number
+  cut-next : next (y .store .floor) (drop x (y .store .records)) ≡ above (y .store .floor) (drop x (y .store .records))
+  cut-next = let t = above-top (y .store .floor) (h .capped) cut-good in omega arith
+
+  -- recovery keeps the invariant
+  pub tied-restart : Tied (record { store = recovered (lose x (y .store)); deeds = restarted x (y .deeds); since = 0 })
+  tied-restart =
+      let f : ℕ = y .store .floor in
+      let a : List Record = drop x (y .store .records) in
+      let left : List Deed = drop x (y .deeds) in
+      let ok : Lawful left = lawful-drop x (h .lawful) in
+      let ns : List ℕ = numbers (history left .runners) in
+      let e : ns ≡ running (whole left .records) = tells ok .runs-alike in
+      record {
+        mark = survivors a;
+        past = restarted x (y .deeds);
+        alike =
+            rw (cut-next, whole-aborting ns left ok, e)
+            (alike-recover (y .store .low) f 1 (rowValue (y .store .base)) (λ k. Absent) a (whole left .records) cut-alike cut-good);
+        good = good-recover cut-good;
+        since = marked;
+        lows = low-aborting ns left ∙ cut-low;
+        floored = rw cut-next (omega (arith, h .floored, above-least f a));
+        capped = omega arith;
+        sorted = h .sorted;
+        lawful = lawful-aborting ns left ok;
+      }
+
+module _ (y : Course) (h : Tied y) where
+  -- the store answers as the whole journal of its deeds
+  pub now : Alike (y .store .low) (y .store .floor) 1 (rowValue (y .store .base)) (λ k. Absent) (y .store .records) (whole (y .deeds) .records)
+  now = cut-alike y h 0 (omega arith)
+
+  -- its journal is good
+  pub good-now : Good (y .store .low) (y .store .records)
+  good-now = cut-good y h 0 (omega arith)
+
+  -- low
+  pub low-now : whole (y .deeds) .low ≡ y .store .low
+  low-now = cut-low y h 0 (omega arith)
+
+  -- the next number needs no cap
+  pub next-above : nextOf (y .store) ≡ above (y .store .floor) (y .store .records)
+  next-above = cut-next y h 0 (omega arith)
+
+  -- and is the whole journal's
+  next-whole : nextOf (y .store) ≡ nextOf (whole (y .deeds))
+  next-whole = rw (now .aboves, whole-floor (y .deeds))
+
+  -- the store refuses what the whole journal would refuse
+  pub refused-alike : (d : Deed) → refused d (y .store) ≡ refused d (whole (y .deeds))
+  refused-alike (Did (Begin t)) = rw (low-now, whole-floor (y .deeds), now .lasts, now .runnings, now .aboves)
+  refused-alike (Did (Update n k e)) =
+      split (runs n (y .store .records)) (λ u. rw (← now .run n, u, now .own n u)) (λ u. rw (← now .run n, u))
+  refused-alike (Did (Abort n)) = rw (now .run n)
+  refused-alike (Did (Commit n t)) =
+      split (runs n (y .store .records))
+      (λ u.
+      rw (
+        ← now .run n,
+        u,
+        low-now,
+        now .lasts,
+        conflict-same (y .store .low) (y .store .floor) 1 (rowValue (y .store .base)) (λ k. Absent) (y .store .records)
+            (whole (y .deeds) .records) now good-now n u,
+      ))
+      (λ u. rw (← now .run n, u))
+  refused-alike (Checkpointed t) =
+      rw (
+        low-now,
+        now .lasts,
+        held-same (y .store .low) (y .store .floor) 1 (rowValue (y .store .base)) (λ k. Absent) (y .store .records) (whole (y .deeds) .records) now good-now t,
+      )
+
+  -- one record more
+  grow : (r : Record) (d : Deed) → refused d (y .store) ≡ 0 → Step (y .store .low) (y .store .records) r
+      → (isBegin r ≡ true → above (y .store .floor) (y .store .records) ≤ r .transaction) → whole (d ∷ y .deeds) ≡ push r (whole (y .deeds))
+      → Tied (record { store = push r (y .store); deeds = d ∷ y .deeds; since = suc (y .since) })
+  grow r d ok s p e =
+      record {
+        mark = h .mark;
+        past = h .past;
+        alike = h .alike;
+        good = h .good;
+        since = grown r d (h .since) s p e;
+        lows = h .lows;
+        floored = h .floored;
+        capped = h .capped;
+        sorted = h .sorted;
+        lawful = went (h .lawful) (sym (refused-alike d) ∙ ok);
+      }
+
+  -- an accepted call
+  tied-call : {c : Call} → Allowed (y .store) (Did c) → refused (Did c) (y .store) ≡ 0
+      → Tied (record { store = push (recordOf c (y .store)) (y .store); deeds = Did c ∷ y .deeds; since = suc (y .since) })
+  tied-call (may-begin t p q u v) ok =
+      let n : ℕ = nextOf (y .store) in
+      let i = above-mono 1 (y .store .floor) (y .store .records) (h .floored) in
+      grow (begun n t) (Did (Begin t)) ok (begin n t (omega (arith, next-above)) (omega arith) p q u) (λ c. omega (arith, next-above)) (rw next-whole)
+  tied-call (may-update n k (Assign v) p q u) ok =
+      grow (assigned n k v) (Did (Update n k (Assign v))) ok (update n k (Assign v) p q u) (λ c. absurd (false≢true c)) refl
+  tied-call (may-update n k (Add v) p q u) ok =
+      grow (added n k v) (Did (Update n k (Add v))) ok (update n k (Add v) p q u) (λ c. absurd (false≢true c)) refl
+  tied-call (may-abort n p) ok = grow (aborted n) (Did (Abort n)) ok (abort n p) (λ c. absurd (false≢true c)) refl
+  tied-call (may-commit n t p q u) ok =
+      grow (committed n t) (Did (Commit n t)) ok (commit n t p q u) (λ c. absurd (false≢true c)) refl
+
+  -- a checkpoint's store answers as the whole journal
+  pub alike-checkpointed : {T : ℕ} → Allowed (y .store) (Checkpointed T)
+      → Alike T (nextOf (y .store)) 1 (rowValue (checkpointed T (y .store) .base)) (λ k. Absent) (kept T (y .store .records)) (whole (y .deeds) .records)
+  alike-checkpointed (may-checkpoint T l m n) =
+      rw next-above
+      (alike-checkpoint (y .store .low) (y .store .floor) 1 (rowValue (y .store .base)) (λ k. Absent) (y .store .records) (whole (y .deeds) .records) now
+      good-now T (rowValue (listAt (y .store .base) (y .store .records) T)) l m n
+      (list-lists (y .store .base) (y .store .records) T .values))
+
+  -- an accepted checkpoint
+  pub tied-checkpoint : {T : ℕ} → Allowed (y .store) (Checkpointed T) → refused (Checkpointed T) (y .store) ≡ 0
+      → Tied (record { store = checkpointed T (y .store); deeds = Checkpointed T ∷ y .deeds; since = 0 })
+  tied-checkpoint (may-checkpoint T l m n) ok =
+      record {
+        mark = kept T (y .store .records);
+        past = Checkpointed T ∷ y .deeds;
+        alike = alike-checkpointed (may-checkpoint T l m n);
+        good = good-checkpoint good-now T l;
+        since = marked;
+        lows = refl;
+        floored = rw next-above (omega (arith, h .floored, above-least (y .store .floor) (y .store .records)));
+        capped = omega arith;
+        sorted = list-lists (y .store .base) (y .store .records) T .rises;
+        lawful = went (h .lawful) (sym (refused-alike (Checkpointed T)) ∙ ok);
+      }
+
+  -- any event
+  tied-happen : (e : Event) → Tied (happen e y)
+  tied-happen (Called room c) =
+      split (eqb (answer room c (y .store)) 0)
+      (λ x.
+      let ok = has-room (refusal c (y .store)) (length (y .store .records) + need c (y .store)) room (eqb-true (answer room c (y .store)) 0 x) .0 in
+      rw x (tied-call (allowed (y .store) (Did c) ok) ok))
+      (λ x. rw x h)
+  tied-happen (Checkpoint rows t) =
+      split (eqb (checkpointAnswer rows t (y .store)) 0)
+      (λ x.
+      let ok =
+      has-room (checkpointRefusal t (y .store)) (length (listAt (y .store .base) (y .store .records) t)) rows
+      (eqb-true (checkpointAnswer rows t (y .store)) 0 x) .0
+      in
+      rw x (tied-checkpoint (allowed (y .store) (Checkpointed t) ok) ok))
+      (λ x. rw x h)
+  tied-happen (Restart x) =
+      let l : min x (y .since) ≤ y .since = omega arith in
+      rw (good-accepts (cut-good y h (min x (y .since)) l)) (tied-restart y h (min x (y .since)) l)
+
+-- any sequence
+pub tied : (es : List Event) → Tied (reached es)
+tied [] =
+    record {
+      mark = [];
+      past = [];
+      alike =
+          record {
+            lasts = refl;
+            aboves = refl;
+            runnings = refl;
+            run = λ n. refl;
+            own = λ n u. refl;
+            values = λ k t i l. refl;
+            touches = λ s k l. refl;
+            freshA = λ n l. refl;
+            freshB = λ n l. refl;
+          };
+      good = none;
+      since = marked;
+      lows = refl;
+      floored = omega arith;
+      capped = omega arith;
+      sorted = refl;
+      lawful = start;
+    }
+tied (e ∷ es) = tied-happen (reached es) (tied es) e
