@@ -78,7 +78,7 @@ fn one_record() -> u64 {
     say::begun(a)
 }
 
-pub fn run() {
+pub(crate) fn run() {
     say::case(
         b"journal: place of refusal 13 in 24 zero bytes",
         zero_place(),

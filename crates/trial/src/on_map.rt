@@ -397,7 +397,7 @@ fn values_held() {
 }
 
 // All cases.
-pub fn run() {
+pub(crate) fn run() {
     running();
     keys_written();
     commit_times();

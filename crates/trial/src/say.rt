@@ -7,13 +7,13 @@ use libc::STDOUT_FILENO;
 use rules::Value;
 
 // How a line shows an absent key: one more than the highest value.
-pub const ABSENT: u64 = 4294967296;
+pub(crate) const ABSENT: u64 = 4294967296;
 
 // How a line shows a refused call where it asks for a value, a number or a count.
-pub const NOTHING: u64 = 18446744073709551615;
+pub(crate) const NOTHING: u64 = 18446744073709551615;
 
 // The line of a case.
-pub fn case(name: &[u8], got: u64, want: u64) {
+pub(crate) fn case(name: &[u8], got: u64, want: u64) {
     io::write_all(STDOUT_FILENO, name);
     io::write_all(STDOUT_FILENO, b" got=");
     io::print_decimal(STDOUT_FILENO, got);
@@ -27,7 +27,7 @@ pub fn case(name: &[u8], got: u64, want: u64) {
 }
 
 // The number of section 6 that update, abort, commit, checkpoint and recover gave.
-pub fn done(a: Done) -> u64 {
+pub(crate) fn done(a: Done) -> u64 {
     match a {
         Done::Accepted => 0,
         Done::Refused(r) => r.number() as u64,
@@ -35,7 +35,7 @@ pub fn done(a: Done) -> u64 {
 }
 
 // The place that refusal 13 gave.
-pub fn place(a: Done) -> u64 {
+pub(crate) fn place(a: Done) -> u64 {
     match a {
         Done::Accepted => NOTHING,
         Done::Refused(r) => r.place() as u64,
@@ -43,7 +43,7 @@ pub fn place(a: Done) -> u64 {
 }
 
 // The number of section 6 that begin gave.
-pub fn begun(a: Begun) -> u64 {
+pub(crate) fn begun(a: Begun) -> u64 {
     match a {
         Begun::Number(_) => 0,
         Begun::Refused(r) => r.number() as u64,
@@ -51,7 +51,7 @@ pub fn begun(a: Begun) -> u64 {
 }
 
 // The transaction number that begin gave.
-pub fn number(a: Begun) -> u64 {
+pub(crate) fn number(a: Begun) -> u64 {
     match a {
         Begun::Number(n) => n as u64,
         Begun::Refused(_) => NOTHING,
@@ -59,7 +59,7 @@ pub fn number(a: Begun) -> u64 {
 }
 
 // The number of section 6 that read or lookup gave.
-pub fn got(a: Got) -> u64 {
+pub(crate) fn got(a: Got) -> u64 {
     match a {
         Got::Value(_) => 0,
         Got::Refused(r) => r.number() as u64,
@@ -67,7 +67,7 @@ pub fn got(a: Got) -> u64 {
 }
 
 // The value that read or lookup gave.
-pub fn value(a: Got) -> u64 {
+pub(crate) fn value(a: Got) -> u64 {
     match a {
         Got::Value(v) => held(v),
         Got::Refused(_) => NOTHING,
@@ -83,7 +83,7 @@ fn held(v: Value) -> u64 {
 }
 
 // The number of section 6 that list gave.
-pub fn listed(a: Listed) -> u64 {
+pub(crate) fn listed(a: Listed) -> u64 {
     match a {
         Listed::Rows(_) => 0,
         Listed::Refused(r) => r.number() as u64,
@@ -91,7 +91,7 @@ pub fn listed(a: Listed) -> u64 {
 }
 
 // The count of rows that list gave.
-pub fn rows(a: Listed) -> u64 {
+pub(crate) fn rows(a: Listed) -> u64 {
     match a {
         Listed::Rows(n) => n as u64,
         Listed::Refused(_) => NOTHING,
