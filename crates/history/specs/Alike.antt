@@ -16,7 +16,6 @@ use Rattle.rules.specs.Values.{value}
 use Rattle.rules.specs.Conflicts.{touched}
 use Rattle.rules.specs.Bools.{split, not-both, and-false}
 use Rattle.rules.specs.Running.{not-ended, running-skip, running-end, runs-skip, touched-skip, touched-open, below}
-use Rattle.versions.specs.Versions.{at}
 
 -- both give the same answers: last, next number, running transactions with their records, values and conflicts; no number from the next one on has a record
 pub record Alike (low fa fb : ℕ) (va vb : ℕ → Value) (a b : List Record) : Type 0 where

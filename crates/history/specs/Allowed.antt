@@ -12,8 +12,8 @@ use Rattle.rules.specs.Conflicts.{conflict}
 use Rattle.rules.specs.Checkpoints.{held}
 use Rattle.rules.specs.Recovery.{mayWrite}
 use Rattle.rules.specs.Calls.{Store, lastOf, nextOf, Begin, Update, Abort, Commit, timeRefusal, refusal, checkpointRefusal, withRoom}
+use Rattle.rules.specs.Passed.{passed}
 use Rattle.rules.specs.Bools.{split}
-use Rattle.versions.specs.Versions.{at}
 use Rattle.history.specs.History.{Deed, Did, Checkpointed}
 use Rattle.history.specs.Judged.{pos}
 
@@ -29,11 +29,6 @@ pub data Allowed (s : Store) : Deed → Type 0 where
   may-abort : (n : ℕ) → runs n (s .records) ≡ true → Allowed s (Did (Abort n))
   may-commit : (n t : ℕ) → runs n (s .records) ≡ true → lastOf s < t → conflict n (s .records) ≡ false → Allowed s (Did (Commit n t))
   may-checkpoint : (t : ℕ) → s .low ≤ t → t ≤ lastOf s → held t (s .records) ≡ false → Allowed s (Checkpointed t)
-
--- one test passed
-passed : (b : Bool) (n x : ℕ) → 0 < n → cond b n x ≡ 0 → (b ≡ false) × (x ≡ 0)
-passed true n x l e = absurd (omega arith)
-passed false n x l e = (refl, e)
 
 module _ (s : Store) where
   -- the two tests of a time
@@ -64,14 +59,3 @@ module _ (s : Store) where
   allowed (Checkpointed t) e =
       let p = timely-at t (cond (held t (s .records)) 9 0) e in
       may-checkpoint t (p .0) (p .1) (passed (held t (s .records)) 9 0 (omega arith) (p .2) .0)
-
--- no room (12) is tested last: what is accepted is not refused, and has room
-pub has-room : (number wanted room : ℕ) → withRoom number wanted room ≡ 0 → (number ≡ 0) × (wanted ≤ room)
-has-room number wanted room e =
-    split (eqb number 0)
-    (λ x.
-    let f : _≡_ {A = ℕ} (cond (leb wanted room) 0 12) 0 = rw x at e in
-    split (leb wanted room)
-    (λ y. (eqb-true number 0 x, leb-true wanted room y))
-    (λ y. let z : _≡_ {A = ℕ} 12 0 = rw y at f in absurd (omega arith)))
-    (λ x. let z : number ≡ 0 = rw x at e in absurd (eqb-false number 0 x z))

@@ -14,7 +14,6 @@ use Rattle.rules.specs.Recovery.{survivors}
 use Rattle.rules.specs.Calls.{Store, lastOf, nextOf, Abort, checkpointed}
 use Rattle.rules.specs.Bools.{split}
 use Rattle.rules.specs.Listing.{list-lists, lists-unique}
-use Rattle.versions.specs.Versions.{at}
 use Rattle.history.specs.History.{Runner, Deed, Did, Checkpointed, numbers, history, aborting, restarted, valueIn, reads, listIn}
 use Rattle.history.specs.Refusals.{lastIn}
 use Rattle.history.specs.Sequences.{Course, lose, recovered}
@@ -98,7 +97,7 @@ module _ (y : Course) (h : Tied y) (T : ℕ) (ok : refused (Checkpointed T) (y .
   pub checkpointed-reads : (n k : ℕ) → runs n (y .store .records) ≡ true → 1 ≤ k → readsIn (checkpointed T (y .store)) n k ≡ readsIn (y .store) n k
   checkpointed-reads n k u i = read-same later tied-later n k (checkpointed-runs n ∙ u) i ∙ sym (read-same y h n k u i)
 
--- aborts change no committed transaction
+-- aborts change no committed transaction, and not low
 aborting-commitments : (ns : List ℕ) (ds : List Deed) → history (aborting ns ds) .commitments ≡ history ds .commitments
 aborting-commitments [] ds = refl
 aborting-commitments (n ∷ ns) ds =
@@ -106,12 +105,19 @@ aborting-commitments (n ∷ ns) ds =
     (λ x. rw x (aborting-commitments ns (Did (Abort n) ∷ ds)))
     (λ x. rw x (aborting-commitments ns ds))
 
+pub aborting-low : (ns : List ℕ) (ds : List Deed) → history (aborting ns ds) .low ≡ history ds .low
+aborting-low [] ds = refl
+aborting-low (n ∷ ns) ds =
+    split (among n (numbers (history ds .runners)))
+    (λ x. rw x (aborting-low ns (Did (Abort n) ∷ ds)))
+    (λ x. rw x (aborting-low ns ds))
+
 no-runners : (rs : List Runner) → numbers rs ≡ [] → rs ≡ []
 no-runners [] e = refl
 no-runners (r ∷ rs) e = let z : length (numbers (r ∷ rs)) ≡ 0 = ap length e in absurd (omega arith)
 
 -- a restart takes back no committed transaction but those whose records are lost
-restarted-commitments : (x : ℕ) (ds : List Deed) → history (restarted x ds) .commitments ≡ history (drop x ds) .commitments
+pub restarted-commitments : (x : ℕ) (ds : List Deed) → history (restarted x ds) .commitments ≡ history (drop x ds) .commitments
 restarted-commitments x ds = aborting-commitments (numbers (history (drop x ds) .runners)) (drop x ds)
 
 -- a restart

@@ -15,7 +15,6 @@ use Rattle.rules.specs.Times.{last, above}
 use Rattle.rules.specs.Conflicts.{conflict}
 use Rattle.rules.specs.Recovery.{formed, numbered, timely, mayWrite, limited, clear, judge, accepts}
 use Rattle.rules.specs.Bools.{split, and-left, and-right}
-use Rattle.versions.specs.Versions.{at}
 use Rattle.history.specs.Good.{Step, begin, update, commit, abort, Good, none, more}
 
 -- a number that is not 0

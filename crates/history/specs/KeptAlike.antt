@@ -17,10 +17,10 @@ use Rattle.rules.specs.Checkpoints.{heldBy, held, late, stays, known, sift, kep
 use Rattle.rules.specs.Recovery.{done}
 use Rattle.rules.specs.Bools.{split, and-left, or-left, or-none-left, or-none-right, not-both, and-false, or-false}
 use Rattle.rules.specs.Running.{not-ended, below}
-use Rattle.versions.specs.Versions.{at}
 use Rattle.history.specs.Good.{begin, update, commit, abort, Good, none, more}
 use Rattle.history.specs.Alike.{Alike}
-use Rattle.history.specs.Kept.{raised, of-kept, above-onto, running-sift, kept-all, runs-sift, of-none, Fitting, fit-none, fit-more, last-low, last-least, last-sift, touched-sift, good-sift, value-sift}
+use Rattle.rules.specs.KeptLaws.{raised, of-kept, above-onto, running-sift, kept-all, runs-sift, of-none}
+use Rattle.history.specs.Kept.{Fitting, fit-none, fit-more, last-low, last-least, last-sift, touched-sift, good-sift, value-sift}
 
 -- a number not yet begun has no records
 pub fresh : {low : ℕ} {rs : List Record} → Good low rs → (n : ℕ) → above 1 rs ≤ n → of n rs ≡ []

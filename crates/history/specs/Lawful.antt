@@ -15,7 +15,6 @@ use Rattle.rules.specs.Times.{last, above}
 use Rattle.rules.specs.Calls.{Store, lastOf, nextOf}
 use Rattle.rules.specs.Bools.{split, not-both, and-false}
 use Rattle.rules.specs.Running.{runs-skip}
-use Rattle.versions.specs.Versions.{at}
 use Rattle.history.specs.History.{Deed}
 use Rattle.history.specs.Good.{begin, update, commit, abort, Good, none, more}
 use Rattle.history.specs.Kept.{last-low}

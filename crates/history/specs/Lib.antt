@@ -1,16 +1,27 @@
+-- What a reader must believe, and the theorems.
 pub mod History
 pub mod Refusals
+pub mod Cells
+pub mod Demands
+pub mod Restarts
+pub mod Endings
+pub mod Silence
+pub mod Corollaries
+pub mod MapCells
+pub mod MapDemands
+pub mod Examples
+-- The same on what a journal store means: its sequences and their invariant.
 pub mod Sequences
-pub mod Listed
 pub mod Good
 pub mod Judged
+pub mod Numbers
 pub mod Alike
 pub mod Kept
 pub mod KeptAlike
-pub mod RecoveredAlike
 pub mod RefusedAlike
-pub mod Numbers
+pub mod RecoveredAlike
 pub mod Recovered
+pub mod Listed
 pub mod Replayed
 pub mod Allowed
 pub mod Lawful
@@ -19,11 +30,15 @@ pub mod RefusalsTold
 pub mod Tied
 pub mod Room
 pub mod Answered
-pub mod Demands
+pub mod Meanings
+-- And on what a map store means.
 pub mod Maps
 pub mod MapVersions
 pub mod MapPlaces
 pub mod MapAgrees
 pub mod MapAnswers
-pub mod MapDemands
-pub mod Examples
+pub mod MapMeanings
+-- From the lent cells to what they mean.
+pub mod Meant
+pub mod Lent
+pub mod MapMeant

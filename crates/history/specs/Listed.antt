@@ -12,7 +12,6 @@ use Rattle.rules.specs.Effects.{applied}
 use Rattle.rules.specs.Lists.{among}
 use Rattle.rules.specs.Bools.{split, or-none-left, or-none-right, and-false}
 use Rattle.rules.specs.Listing.{Lists, listed-lists}
-use Rattle.versions.specs.Versions.{at}
 use Rattle.history.specs.History.{Change, Commitment, making, valueIn, changedKeys, committedKeys, listIn, changes, writtenBy, isPresent}
 
 making-present : (k : ℕ) (cs : List Change) (v : Value) → isPresent (making k cs v) ≡ (changes k cs || isPresent v)

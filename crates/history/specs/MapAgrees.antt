@@ -25,8 +25,9 @@ use Rattle.rules.specs.Running.{not-ended, running-skip, running-end, runs-skip
 use Rattle.slot.specs.Places.{Place, free, taken, hasKey, runningValue, note, placeOf, openIn, amend, occupied}
 use Rattle.versions.specs.Versions.{at, later, thin}
 use Rattle.map_store.specs.Meaning.{MapStore, current, rowsAt, updatedPlace, stamp}
-use Rattle.history.specs.Kept.{any-more, last-low}
-use Rattle.history.specs.Room.{fewer}
+use Rattle.rules.specs.KeptLaws.{any-more}
+use Rattle.history.specs.Kept.{last-low}
+use Rattle.rules.specs.RoomLaws.{fewer}
 use Rattle.history.specs.MapVersions.{ordered, first-has, has-first, value-stamp, later-stamp, ordered-stamp, ordered-thin, later-thin, value-thin}
 use Rattle.history.specs.MapPlaces.{has-among, wrote-among, note-keys, note-first, firsts-written, isFree, once, open-other, open-same, open-count, open-length, open-once, amend-other, amend-once, amend-length, amend-taken, amend-free}
 use Rattle.versions.specs.Versions as versions

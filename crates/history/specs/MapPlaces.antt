@@ -15,7 +15,6 @@ use Rattle.rules.specs.Values.{Row}
 use Rattle.rules.specs.Lists.{among, rowKeys}
 use Rattle.rules.specs.Bools.{split, and-left, and-right, or-none-left, or-none-right, not-both, or-false}
 use Rattle.slot.specs.Places.{Place, free, taken, hasKey, runningValue, reset, note, placeOf, openIn, amend, occupied, holds}
-use Rattle.versions.specs.Versions.{at}
 use Rattle.map_store.specs.Meaning.{firsts}
 use Rattle.history.specs.MapVersions.{or-absent, first-has}
 

@@ -5,8 +5,7 @@ use mathlib.Core.Bool.{Bool, true, _&&_}
 use mathlib.Core.List.{List, [], _∷_}
 use Prim.Native.Nat.{ℕ}
 use lib.Dec.{eqb}
-use Rattle.rules.specs.Calls.{Call}
-use Rattle.map_store.specs.Meaning.{MapStore, emptyMap, mapRefusal, mapAnswer, mapAfter}
+use Rattle.map_store.specs.Meaning.{MapStore, emptyMap, mapRefusal, mapAfter}
 use Rattle.history.specs.History.{Deed, Did, Checkpointed}
 use Rattle.map_store.specs.Meaning as map
 
@@ -29,9 +28,3 @@ mapped (d ∷ older) = mapDid d (mapped older)
 abbrev pub mapAccepts : List Deed → Bool
 mapAccepts [] = true
 mapAccepts (d ∷ older) = eqb (mapRefused d (mapped older)) 0 && mapAccepts older
-
--- a map store that was given these deeds with whatever room, and has accepted every one
-pub data Given : List Deed → MapStore → Type 0 where
-  nothing-yet : Given [] emptyMap
-  given-call : {ds : List Deed} {m : MapStore} (room : ℕ) (c : Call) → Given ds m → mapAnswer room c m ≡ 0 → Given (Did c ∷ ds) (mapAfter c m)
-  given-checkpoint : {ds : List Deed} {m : MapStore} (t : ℕ) → Given ds m → map.checkpointRefusal t m ≡ 0 → Given (Checkpointed t ∷ ds) (map.checkpointed t m)

@@ -1,11 +1,14 @@
--- Section 6 from the history alone, but for shape and room: the number that a deed gets, in the order of its tests. Assumes nothing.
+-- Section 6 from the history alone, but for shape: the number that a deed gets, in the order of its tests, and what an accepted one gives. It shares
+-- with the stores that no room (12) is the last test. Assumes nothing.
 use mathlib.Core.Bool.{Bool, false, cond, not, _&&_, _||_}
 use mathlib.Core.List.{List, [], _∷_}
-use Prim.Native.Nat.{ℕ}
+use Prim.Native.Nat.{ℕ, _+_}
 use lib.Dec.{eqb, leb, ltb}
 use lib.ListN.{length}
 use Rattle.rules.specs.Lists.{among}
-use Rattle.rules.specs.Calls.{Begin, Update, Abort, Commit}
+use Rattle.rules.specs.declared.Value.{Value}
+use Rattle.rules.specs.declared.Value.the-variants.{Absent, Present}
+use Rattle.rules.specs.Calls.{Call, Begin, Update, Abort, Commit, withRoom}
 use Rattle.history.specs.History.{Change, Commitment, Runner, History, Deed, Did, Checkpointed, numbers, changesOf, snapshotOf, latest, changes}
 
 -- some number of a list passes the test
@@ -44,6 +47,7 @@ timeRefused t h others = cond (ltb t (h .low)) 4 (cond (ltb (lastIn h) t) 5 othe
 abbrev pub unknownOr : ℕ → History → ℕ → ℕ
 unknownOr n h others = cond (not (among n (numbers (h .runners)))) 2 others
 
+-- but for room
 abbrev pub refusalIn : Deed → History → ℕ
 refusalIn (Did (Begin t)) h = timeRefused t h (cond (leb 8 (length (h .runners))) 6 (cond (leb 4294967295 (h .next)) 7 0))
 refusalIn (Did (Update n k e)) h =
@@ -54,3 +58,28 @@ refusalIn (Did (Commit n t)) h =
     unknownOr n h
     (cond (leb t (lastIn h)) 10 (cond (conflicts (h .commitments) (snapshotOf n (h .runners)) (changesOf n (h .runners))) 11 0))
 refusalIn (Checkpointed t) h = timeRefused t h (cond (holdsBack t (h .runners)) 9 0)
+
+-- what an accepted call gives: begin its number, the others nothing
+abbrev pub givesIn : Call → History → Value
+givesIn (Begin t) h = Present (h .next)
+givesIn (Update n k e) h = Absent
+givesIn (Abort n) h = Absent
+givesIn (Commit n t) h = Absent
+
+-- rule 3.11: begin needs 2 free records and one for each running transaction, update 1 and one for each running, abort and commit 1
+abbrev pub needIn : Call → History → ℕ
+needIn (Begin t) h = 2 + length (h .runners)
+needIn (Update n k e) h = 1 + length (h .runners)
+needIn (Abort n) h = 1
+needIn (Commit n t) h = 1
+
+-- the number that a call gets in a journal with so many used records and room for so many
+abbrev pub numberIn : ℕ → ℕ → Call → History → ℕ
+numberIn used room c h = withRoom (refusalIn (Did c) h) (used + needIn c h) room
+
+-- the numbers that a lookup and a read get
+abbrev pub lookupNumber : ℕ → ℕ → History → ℕ
+lookupNumber k t h = cond (eqb k 0) 3 (timeRefused t h 0)
+
+abbrev pub readNumber : ℕ → ℕ → History → ℕ
+readNumber n k h = unknownOr n h (cond (eqb k 0) 3 0)

@@ -16,7 +16,6 @@ use Rattle.rules.specs.Checkpoints.{held}
 use Rattle.rules.specs.Calls.{Store, lastOf, Begin, Update, Abort, Commit}
 use Rattle.rules.specs.Bools.{split, or-right, or-none, or-none-left, or-none-right, not-both}
 use Rattle.rules.specs.Running.{not-ended, wrote-skip, touched-skip, touched-open}
-use Rattle.versions.specs.Versions.{at}
 use Rattle.history.specs.History.{Runner, History, Deed, Did, Checkpointed, numbers, snapshotOf, changes}
 use Rattle.history.specs.Refusals.{anyOf, distinctKeys, changedAfter, conflicts, holdsBack, lastIn, refusalIn}
 use Rattle.history.specs.Good.{begin, update, commit, abort, Good, none, more}
@@ -77,7 +76,7 @@ none-any p (m ∷ ns) h n x =
     (λ e. subst (λ (i : ℕ). p i ≡ false) (eqb-true m n e) (or-none-left (p m) (anyOf p ns) h))
     (λ e. none-any p ns (or-none-right (p m) (anyOf p ns) h) n (rw e at x))
 
-length-numbers : (rs : List Runner) → length (numbers rs) ≡ length rs
+pub length-numbers : (rs : List Runner) → length (numbers rs) ≡ length rs
 length-numbers [] = refl
 length-numbers (r ∷ rs) = rw (length-numbers rs)
 

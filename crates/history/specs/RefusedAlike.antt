@@ -15,7 +15,6 @@ use Rattle.rules.specs.Times.{last}
 use Rattle.rules.specs.Conflicts.{clashes, conflict}
 use Rattle.rules.specs.Checkpoints.{heldBy, held}
 use Rattle.rules.specs.Bools.{split, and-left, not-both}
-use Rattle.versions.specs.Versions.{at}
 use Rattle.history.specs.Good.{begin, update, commit, abort, Good, none, more}
 use Rattle.history.specs.Alike.{Alike}
 use Rattle.history.specs.KeptAlike.{fresh, not-held}

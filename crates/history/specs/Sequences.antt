@@ -1,4 +1,4 @@
--- Any sequence of calls, checkpoints and restarts, refused ones among them, on a journal store that starts empty: the store that it reaches and the
+-- Sequences on what a journal store means: the store that calls, checkpoints and restarts reach from the empty one, refused ones among them, and the
 -- deeds that its history tells. Every event may be lent other room. Assumes nothing.
 use mathlib.Core.Bool.{cond}
 use mathlib.Core.List.{List, [], _∷_}

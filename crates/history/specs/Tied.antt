@@ -20,6 +20,7 @@ use Rattle.rules.specs.Lists.{rising, listAt}
 use Rattle.rules.specs.Checkpoints.{kept}
 use Rattle.rules.specs.Recovery.{survivors}
 use Rattle.rules.specs.Calls.{Store, nextOf, Call, Begin, Update, Abort, Commit, recordOf, refusal, checkpointRefusal, need, answer, checkpointAnswer, push, checkpointed}
+use Rattle.rules.specs.Passed.{fitting}
 use Rattle.rules.specs.Bools.{split}
 use Rattle.rules.specs.Listing.{list-lists}
 use Rattle.history.specs.History.{Deed, Did, Checkpointed, numbers, history, restarted}
@@ -32,7 +33,7 @@ use Rattle.history.specs.RecoveredAlike.{good-recover, alike-recover}
 use Rattle.history.specs.RefusedAlike.{conflict-same, held-same}
 use Rattle.history.specs.Numbers.{above-mono, above-least, above-top}
 use Rattle.history.specs.Replayed.{whole, whole-floor}
-use Rattle.history.specs.Allowed.{refused, Allowed, may-begin, may-update, may-abort, may-commit, may-checkpoint, allowed, has-room}
+use Rattle.history.specs.Allowed.{refused, Allowed, may-begin, may-update, may-abort, may-commit, may-checkpoint, allowed}
 use Rattle.history.specs.Lawful.{Lawful, start, went, lawful-drop}
 use Rattle.history.specs.Told.{tells, lawful-aborting, whole-aborting, low-aborting}
 
@@ -242,14 +243,14 @@ module _ (y : Course) (h : Tied y) where
   tied-happen (Called room c) =
       split (eqb (answer room c (y .store)) 0)
       (λ x.
-      let ok = has-room (refusal c (y .store)) (length (y .store .records) + need c (y .store)) room (eqb-true (answer room c (y .store)) 0 x) .0 in
+      let ok = fitting (refusal c (y .store)) (length (y .store .records) + need c (y .store)) room (eqb-true (answer room c (y .store)) 0 x) .0 in
       rw x (tied-call (allowed (y .store) (Did c) ok) ok))
       (λ x. rw x h)
   tied-happen (Checkpoint rows t) =
       split (eqb (checkpointAnswer rows t (y .store)) 0)
       (λ x.
       let ok =
-      has-room (checkpointRefusal t (y .store)) (length (listAt (y .store .base) (y .store .records) t)) rows
+      fitting (checkpointRefusal t (y .store)) (length (listAt (y .store .base) (y .store .records) t)) rows
       (eqb-true (checkpointAnswer rows t (y .store)) 0 x) .0
       in
       rw x (tied-checkpoint (allowed (y .store) (Checkpointed t) ok) ok))

@@ -20,7 +20,6 @@ use Rattle.rules.specs.Lists.{among}
 use Rattle.rules.specs.Calls.{Store, Begin, Abort, push}
 use Rattle.rules.specs.Bools.{split, not-both, and-false}
 use Rattle.rules.specs.Running.{without, running-skip, running-end, runs-skip, running-runs}
-use Rattle.versions.specs.Versions.{at}
 use Rattle.history.specs.History.{Change, Commitment, Runner, History, Deed, Did, numbers, changesOf, snapshotOf, changed, ended, recalled, told, history, aborting, making, valueIn, reads, latest}
 use Rattle.history.specs.KeptAlike.{fresh}
 use Rattle.history.specs.RecoveredAlike.{endAll}

@@ -11,6 +11,7 @@ use borrow.Author.Tests.{lt-ltb, le-ltb, le-leb, lt-leb, eqb-true}
 use Rattle.rules.specs.declared.Value.the-variants.{Absent}
 use Rattle.rules.specs.Kinds.{recordBytes}
 use Rattle.rules.specs.Checkpoints.{held, kept}
+use Rattle.rules.specs.Passed.{fitting}
 use Rattle.rules.specs.Values.{Row}
 use Rattle.rules.specs.Lists.{rowKeys}
 use Rattle.rules.specs.Columns.{rowValues}
@@ -22,7 +23,6 @@ use Rattle.values.specs.Lists.{Filled}
 use Rattle.journal.specs.Compact.{compacted, Compacted}
 use Rattle.journal_store.specs.declared.Head.{Head}
 use Rattle.journal_store.specs.Shape.{isShaped, rowRoom, meaning}
-use Rattle.journal_store.specs.Write.{fitting}
 use Rattle.journal_store.specs.List.{listOf}
 
 -- what a store of good shape answers where so many base rows are lent
@@ -122,7 +122,7 @@ module _ (t : ℕ) (h : Head) (keys values j : List ℕ) where
     pub checkpoint-fits : eqb (a .number) 0 ≡ true → (length (listOf t (meaning h keys values j)) ≤ 512) × (length (listOf t (meaning h keys values j)) ≤ length keys)
     checkpoint-fits e =
         let l = fitting (checkpointRefusal t (meaning h keys values j)) (length (listOf t (meaning h keys values j))) (rowRoom (length keys))
-        (sym (ap (λ (r : Reply). r .number) d) ∙ eqb-true (a .number) 0 e)
+        (sym (ap (λ (r : Reply). r .number) d) ∙ eqb-true (a .number) 0 e) .1
         in
         (omega (arith, min-le-left 512 (length keys)), omega (arith, min-le-right 512 (length keys)))
 

@@ -8,3 +8,4 @@ pub mod Recover
 pub mod Unique
 pub mod Marked
 pub mod Tie
+pub mod ShapeLaws

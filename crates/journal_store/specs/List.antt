@@ -9,6 +9,7 @@ use lib.ListN.{length, drop}
 use borrow.Author.Tests.{lt-ltb, le-ltb, le-leb, lt-leb, eqb-true, eqb-false, leb-true}
 use Rattle.rules.specs.declared.Value.the-variants.{Present}
 use Rattle.rules.specs.Bools.{split, and-left, and-right}
+use Rattle.rules.specs.Passed.{fitting}
 use Rattle.rules.specs.Values.{Row}
 use Rattle.rules.specs.Lists.{rowKeys, listAt}
 use Rattle.rules.specs.Columns.{rowValues}
@@ -19,7 +20,6 @@ use Rattle.answer.specs.Laws.{after-refused}
 use Rattle.values.specs.Lists.{Filled}
 use Rattle.journal_store.specs.declared.Head.{Head}
 use Rattle.journal_store.specs.Shape.{isShaped, meaning}
-use Rattle.journal_store.specs.Write.{fitting}
 
 -- the list at t of what the store means
 abbrev pub listOf : ℕ → Store → List Row
@@ -94,7 +94,7 @@ module _ (h : Head) (keys values j : List ℕ) (t : ℕ) (listed contents : List
     pub list-fits : eqb (a .number) 0 ≡ true → length (listOf t (meaning h keys values j)) ≤ length listed
     list-fits e =
         fitting (listRefusal t (meaning h keys values j)) (length (listOf t (meaning h keys values j))) (length listed)
-        (sym (ap (λ (r : Reply). r .number) d) ∙ eqb-true (a .number) 0 e)
+        (sym (ap (λ (r : Reply). r .number) d) ∙ eqb-true (a .number) 0 e) .1
 
     pub list-filled : (listed' contents' : List ℕ) → eqb (a .number) 0 ≡ true → Filled (listOf t (meaning h keys values j)) listed contents listed' contents'
         → ListedBy h keys values j t listed contents a listed' contents'

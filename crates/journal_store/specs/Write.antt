@@ -11,6 +11,7 @@ use borrow.Author.Tests.{eqb-true, eqb-false, leb-true}
 use Rattle.rules.specs.declared.Record.{Record}
 use Rattle.rules.specs.Bools.{split}
 use Rattle.rules.specs.Kinds.{recordBytes}
+use Rattle.rules.specs.Passed.{fitting}
 use Rattle.rules.specs.Calls.{Store, Call, refusal, need, withRoom, answer, recordOf, gives}
 use Rattle.record.specs.Bytes.{newest, appended}
 use Rattle.record.specs.Laws.{length-newest}
@@ -41,19 +42,10 @@ pub record Wrote (c : Call) (h : Head) (keys values j : List ℕ) (a : Reply) (h
   pub cells : exit ≡ after (number c h keys values j) (appended j (h .journal .used) (recordOf c (meaning h keys values j))) j
 
 -- an accepted call has the room that it needs
-pub fitting : (refused wanted room : ℕ) → withRoom refused wanted room ≡ 0 → wanted ≤ room
-fitting refused wanted room h =
-    split (leb wanted room)
-    (λ f. leb-true wanted room f)
-    (λ f.
-    split (eqb refused 0)
-    (λ e. let z : _≡_ {A = ℕ} 12 0 = rw (e, f) at h in absurd (omega (arith, z)))
-    (λ e. absurd (eqb-false refused 0 e (rw e at h))))
-
 pub room-left : (room : ℕ) (c : Call) (s : Store) → answer room c s ≡ 0 → length (s .records) + need c s ≤ room
-room-left room c s h = fitting (refusal c s) (length (s .records) + need c s) room h
+room-left room c s h = fitting (refusal c s) (length (s .records) + need c s) room h .1
 
-need-some : (c : Call) (s : Store) → 1 ≤ need c s
+pub need-some : (c : Call) (s : Store) → 1 ≤ need c s
 need-some (Rattle.rules.specs.Calls.Begin t) s = omega arith
 need-some (Rattle.rules.specs.Calls.Update n k e) s = omega arith
 need-some (Rattle.rules.specs.Calls.Abort n) s = omega arith

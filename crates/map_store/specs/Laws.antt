@@ -10,6 +10,7 @@ use lib.ListN.{length}
 use borrow.Author.Tests.{eqb-true}
 use Rattle.rules.specs.declared.Value.{Value}
 use Rattle.rules.specs.declared.Value.the-variants.{Absent, Present}
+use Rattle.rules.specs.Passed.{fitting}
 use Rattle.rules.specs.Calls.{Call, Begin, Commit}
 use Rattle.answer.specs.declared.Refusal.the-variants.{BadShape}
 use Rattle.answer.specs.Reply.{Reply, refused, told, after}
@@ -30,7 +31,7 @@ use Rattle.map_store.specs.Meaning.{MapStore, mapAnswer, gives, listRefu
 use Rattle.map_store.specs.Shape.{isShaped, Shaped, roomOf, meaning}
 use Rattle.map_store.specs.Heads.{headAfter, rowsIn}
 use Rattle.map_store.specs.Contracts.{shapedNumber, number, decided, Answered, Committed, Put, listNumber, ListedAt, Written, checkpointNumber, Checkpointed, Thinned}
-use Rattle.map_store.specs.Tests.{say, fitting, begin-numbered, commit-fits}
+use Rattle.map_store.specs.Tests.{say, begin-numbered, commit-fits}
 
 -- the slot that was found is the place of the transaction, and its rows are in order
 module _ (h : Slots) (n : ℕ) (f : Found) (e : f ≡ slotOf h n) where

@@ -11,6 +11,7 @@ use borrow.Author.Tests.{le-leb, eq-eqb, ne-eqb}
 use Rattle.rules.specs.declared.Effect.{Effect}
 use Rattle.rules.specs.Effects.{orZero, applied}
 use Rattle.rules.specs.Values.{Row}
+use Rattle.rules.specs.Passed.{passed}
 use Rattle.rules.specs.Calls.{Begin, Update, Abort, Commit}
 use Rattle.column.specs.declared.Found.the-variants.{At, Nothing}
 use Rattle.slot.specs.declared.Slots.{Slots}
@@ -30,7 +31,7 @@ use Rattle.map_store.specs.Meaning.{MapStore, emptyMap, current, mapRefu
 use Rattle.map_store.specs.Shape.{emptyHead, isShaped, Shaped, roomOf, meaning}
 use Rattle.map_store.specs.Heads.{begunHead, updatedHead, abortedHead, rowsIn, committedHead, written, keptHead}
 use Rattle.map_store.specs.Laws.{place-none, place-found}
-use Rattle.map_store.specs.Tests.{passed, abort-unknown, update-unknown, commit-unknown, commit-fits}
+use Rattle.map_store.specs.Tests.{abort-unknown, update-unknown, commit-unknown, commit-fits}
 use Rattle.map_store.specs.RowLaws.{length-written}
 
 -- a good shape passes the test

@@ -10,6 +10,7 @@ use borrow.Author.Tests.{lt-ltb, le-ltb, le-leb, lt-leb, eq-eqb, ne-eqb, leb-tru
 use Rattle.rules.specs.declared.Value.{Value}
 use Rattle.rules.specs.declared.Effect.{Effect}
 use Rattle.rules.specs.Bools.{split}
+use Rattle.rules.specs.Passed.{passed, fitting}
 use Rattle.rules.specs.Values.{Row}
 use Rattle.rules.specs.Calls.{Begin, Update, Abort, Commit, withRoom}
 use Rattle.answer.specs.Reply.{accepted, told}
@@ -24,18 +25,6 @@ say n number v e = sym (ap (λ (x : ℕ). told x v) e)
 -- an accepted call says its value too
 pub say-value : (number : ℕ) (v w : Value) → v ≡ w → number ≡ 0 → accepted v ≡ told number w
 say-value number v w e z = rw (e, z)
-
--- a test that refuses did not, where the number is 0
-pub passed : (b : Bool) (n others : ℕ) → 1 ≤ n → cond b n others ≡ 0 → (b ≡ false) × (others ≡ 0)
-passed true n others l e = absurd (omega arith)
-passed false n others l e = (refl, e)
-
--- an accepted call has the room that it needs
-pub fitting : (refused wanted room : ℕ) → withRoom refused wanted room ≡ 0 → (refused ≡ 0) × (wanted ≤ room)
-fitting refused wanted room h =
-    split (eqb refused 0)
-    (λ e. (eqb-true refused 0 e, split (leb wanted room) (λ f. leb-true wanted room f) (λ f. let z : _≡_ {A = ℕ} 12 0 = rw (e, f) at h in absurd (omega (arith, z)))))
-    (λ e. absurd (eqb-false refused 0 e (rw e at h)))
 
 module _ (m : MapStore) (t : ℕ) where
   module _ (others : ℕ) where

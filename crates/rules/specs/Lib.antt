@@ -9,9 +9,12 @@ pub mod Checkpoints
 pub mod Recovery
 pub mod Calls
 pub mod Bools
+pub mod Passed
 pub mod Running
 pub mod Listing
 pub mod Columns
 pub mod Cuts
+pub mod KeptLaws
+pub mod RoomLaws
 pub mod Unique
 pub mod Examples

@@ -1,0 +1,74 @@
+-- ENDING IS POSSIBLE. Rule 3.11 on the cells that the contracts speak of: where every call that writes a record is lent a journal of the same length,
+-- a running transaction can always be ended by abort, and abort and commit never get 12. Assumes nothing.
+use mathlib.Core.Path.{_≡_, ap, sym, _∙_, subst}
+use mathlib.Core.Bool.{true, false, cond, not}
+use mathlib.Core.List.{List}
+use mathlib.Core.Logic.{_≢_}
+use Prim.Native.Nat.{ℕ}
+use native.Mathlib.Omega.{arith}
+use lib.Dec.{leb}
+use lib.ListN.{length}
+use Rattle.rules.specs.Bools.{split}
+use Rattle.rules.specs.Transactions.{runs}
+use Rattle.rules.specs.Lists.{among}
+use Rattle.rules.specs.Running.{running-runs}
+use Rattle.rules.specs.Conflicts.{conflict}
+use Rattle.rules.specs.Calls.{Store, lastOf, Call, Abort, Commit, refusal, answer}
+use Rattle.journal_store.specs.Shape.{roomOf}
+use Rattle.journal_store.specs.Write.{number}
+use Rattle.history.specs.History.{Deed, numbers, history}
+use Rattle.history.specs.Sequences.{Course}
+use Rattle.history.specs.Meanings.{abort-accepted, commit-has-room}
+use Rattle.history.specs.Cells.{Cells, meaningOf, end, Lent, Reached}
+use Rattle.history.specs.Meant.{meant}
+use Rattle.history.specs.Lent.{lent-passes, lent-meaning}
+use Rattle.history.specs.Demands.{running-is}
+
+-- none of a commit's other tests gives 12
+commit-not-12 : (n t : ℕ) (s : Store) → refusal (Commit n t) s ≢ 12
+commit-not-12 n t s e =
+    split (runs n (s .records))
+    (λ u. split (leb t (lastOf s))
+    (λ v. let z : _≡_ {A = ℕ} 10 12 = rw (u, v) at e in absurd (omega arith))
+    (λ v. split (conflict n (s .records))
+    (λ w. let z : _≡_ {A = ℕ} 11 12 = rw (u, v, w) at e in absurd (omega arith))
+    (λ w. let z : _≡_ {A = ℕ} 0 12 = rw (u, v, w) at e in absurd (omega arith))))
+    (λ u. let z : _≡_ {A = ℕ} 2 12 = rw u at e in absurd (omega arith))
+
+module _ (bytes : ℕ) {ds : List Deed} {since : ℕ} {x : Cells} (r : Reached (λ n. n ≡ bytes) ds since x) (keys values journal : List ℕ)
+    (l : Lent x (end x) keys values journal) (same : length journal ≡ bytes) where
+  -- the number on the cells is the one on their meaning
+  meant-number : (c : Call) → number c (x .head) keys values journal ≡ answer (roomOf bytes) c (meaningOf x)
+  meant-number c =
+      rw (lent-passes r keys values journal l)
+      (ap (answer (roomOf (length journal)) c) (lent-meaning r keys values journal l) ∙ ap (λ (i : ℕ). answer (roomOf i) c (meaningOf x)) same)
+
+  aborts : (n : ℕ) → runs n (meaningOf x .records) ≡ true → answer (roomOf bytes) (Abort n) (meaningOf x) ≡ 0
+  aborts n =
+      let m = meant r in
+      subst (λ (y : Course). runs n (y .store .records) ≡ true → answer (roomOf bytes) (Abort n) (y .store) ≡ 0) (m .course)
+      (λ u. abort-accepted (roomOf bytes) (m .events) (m .steady bytes (λ i e. e)) n u)
+
+  commits : (n t : ℕ) → runs n (meaningOf x .records) ≡ true → answer (roomOf bytes) (Commit n t) (meaningOf x) ≡ refusal (Commit n t) (meaningOf x)
+  commits n t =
+      let m = meant r in
+      subst (λ (y : Course). runs n (y .store .records) ≡ true → answer (roomOf bytes) (Commit n t) (y .store) ≡ refusal (Commit n t) (y .store)) (m .course)
+      (λ u. commit-has-room (roomOf bytes) (m .events) (m .steady bytes (λ i e. e)) n u t)
+
+  -- Abort of a running transaction is accepted.
+  pub ending-is-possible : (n : ℕ) → among n (numbers (history ds .runners)) ≡ true → number (Abort n) (x .head) keys values journal ≡ 0
+  ending-is-possible n u =
+      meant-number (Abort n) ∙ aborts n (sym (running-runs n (meaningOf x .records)) ∙ rw (running-is r) u)
+
+  -- Abort and commit never get 12.
+  pub abort-never-12 : (n : ℕ) → number (Abort n) (x .head) keys values journal ≢ 12
+  abort-never-12 n e =
+      split (runs n (meaningOf x .records))
+      (λ u. let z : _≡_ {A = ℕ} 0 12 = sym (aborts n u) ∙ sym (meant-number (Abort n)) ∙ e in absurd (omega arith))
+      (λ u. let z : _≡_ {A = ℕ} 2 12 = rw u at (sym (meant-number (Abort n)) ∙ e) in absurd (omega arith))
+
+  pub commit-never-12 : (n t : ℕ) → number (Commit n t) (x .head) keys values journal ≢ 12
+  commit-never-12 n t e =
+      split (runs n (meaningOf x .records))
+      (λ u. commit-not-12 n t (meaningOf x) (sym (commits n t u) ∙ sym (meant-number (Commit n t)) ∙ e))
+      (λ u. let z : _≡_ {A = ℕ} 2 12 = rw u at (sym (meant-number (Commit n t)) ∙ e) in absurd (omega arith))

@@ -1,0 +1,268 @@
+-- The cells that calls reach mean what the same events reach on meanings, and their shape is good: what is proved of records, rows and times holds of
+-- the bytes and columns. Assumes nothing.
+use mathlib.Core.Path.{_≡_, refl, ap, sym, _∙_, subst}
+use mathlib.Core.Bool.{Bool, true, false, cond, not, _&&_}
+use mathlib.Core.List.{List, [], _∷_, _++_}
+use Prim.Native.Nat.{ℕ, suc, _+_, _-_, _*_, _/_, _^_, _<_, _≤_, min}
+use native.Mathlib.Nat.{min-le-right, min-le-left}
+use native.Mathlib.Omega.{arith}
+use lib.Dec.{eqb, leb}
+use lib.ListN.{length, take, drop, take-append-drop}
+use lib.Seq.{length-take-le}
+use borrow.Author.Tests.{eqb-true, leb-true}
+use Rattle.rules.specs.declared.Record.{Record}
+use Rattle.rules.specs.Bools.{split, and-left, and-right}
+use Rattle.rules.specs.Kinds.{recordBytes}
+use Rattle.rules.specs.Times.{next}
+use Rattle.rules.specs.Lists.{rowKeys}
+use Rattle.rules.specs.Columns.{firstRows, rowValues}
+use Rattle.rules.specs.Checkpoints.{kept}
+use Rattle.rules.specs.Recovery.{accepts, survivors, walk}
+use Rattle.rules.specs.Calls.{Store, nextOf, Call, recordOf, answer, checkpointAnswer, push, checkpointed}
+use Rattle.record.specs.Bytes.{Bytes, newest, appended}
+use Rattle.record.specs.Laws.{newest-front, length-newest, drop-newest}
+use Rattle.answer.specs.Reply.{Reply, after}
+use Rattle.journal.specs.Compact.{compacted}
+use Rattle.journal_store.specs.declared.Head.{Head}
+use Rattle.journal_store.specs.Shape.{emptyHead, grown, isShaped, Shaped, shape, roomOf, rowRoom, meaning}
+use Rattle.journal_store.specs.Write.{Wrote, number, room-left, need-some}
+use Rattle.journal_store.specs.List.{listOf}
+use Rattle.journal_store.specs.Checkpoint.{checkpointHead, checkpointNumber}
+use Rattle.journal_store.specs.Recover.{risingKeys, journalBytes, isRecoverable, surviving, recoverReply, recoveredHead, Recoverable, recoverable, Recovered}
+use Rattle.journal_store.specs.Tie.{SizedCall, fit-call, push-meaning, checkpoint-meaning, recover-meaning}
+use Rattle.journal_store.specs.ShapeLaws.{call-shaped, checkpoint-shaped, recover-shaped}
+use Rattle.history.specs.History.{Deed, Did, Checkpointed, restarted}
+use Rattle.history.specs.Sequences.{Event, Called, Checkpoint, Restart, Course, lose, recovered, ifAccepted, happen, reached, Ever, never, called, checkpointed-at, restarted-with}
+use Rattle.history.specs.Cells.{Cells, emptyCells, meaningOf, end, Holds, Cut, lost, Reached}
+use Rattle.history.specs.Meanings.{floor-in-range, cut-goes-on}
+use Rattle.history.specs.Cells as cells
+use Rattle.journal_store.specs.Checkpoint as checkpoint
+
+-- events on meanings that lead to the store that the cells mean, with the same deeds; with the same room where the calls had the same room
+pub record Meant (room : ℕ → Type 0) (ds : List Deed) (since : ℕ) (x : Cells) : Type 0 where
+  pub events : List Event
+  pub course : reached events ≡ record { store = meaningOf x; deeds = ds; since = since }
+  pub shaped : Shaped (x .head) (length (x .keys)) (length (x .values)) (length (x .journal))
+  pub steady : (bytes : ℕ) → ((n : ℕ) → room n → n ≡ bytes) → Ever (roomOf bytes) events
+
+-- the first records are read from the first bytes
+newest-prefix : (n m : ℕ) (b : List ℕ) → n * recordBytes ≤ m → m ≤ length b → newest n (take m b) ≡ newest n b
+newest-prefix n m b i l =
+    let e = length-take-le m b l in
+    sym (newest-front (take m b) (drop m b) n (omega arith)) ∙ ap (newest n) (take-append-drop m b)
+
+pub newest-held : (n m : ℕ) (a b : List ℕ) → n * recordBytes ≤ m → m ≤ length a → m ≤ length b → take m a ≡ take m b → newest n a ≡ newest n b
+newest-held n m a b i l k e = sym (newest-prefix n m a i l) ∙ ap (newest n) e ∙ newest-prefix n m b i k
+
+-- what is lent means what the store means
+pub held-meaning : (x : Cells) (keys values journal : List ℕ) → Shaped (x .head) (length (x .keys)) (length (x .values)) (length (x .journal))
+    → Shaped (x .head) (length keys) (length values) (length journal) → Holds x (end x) keys values journal
+    → meaning (x .head) keys values journal ≡ meaningOf x
+held-meaning x keys values journal s w h =
+    rw (
+      h .keys-held,
+      h .values-held,
+      newest-held (x .head .journal .used) (end x) journal (x .journal) (omega arith) (w .used) (s .used) (h .journal-held),
+    )
+
+-- an accepted call was lent a good shape
+pub shape-accepted : (c : Call) (h : Head) (keys values j : List ℕ) → number c h keys values j ≡ 0 → isShaped h (length keys) (length values) (length j) ≡ true
+shape-accepted c h keys values j e =
+    split (isShaped h (length keys) (length values) (length j))
+    (λ b. b)
+    (λ b. let z : _≡_ {A = ℕ} 1 0 = rw b at e in absurd (omega arith))
+
+-- a shape that can be recovered has its base rows in paired columns
+paired : (h : Head) (keys : List ℕ) (values bytes survived : ℕ) → isRecoverable h keys values bytes survived ≡ true
+    → (h .base .rows ≤ length keys) × (length keys ≡ values)
+paired h keys values bytes survived e =
+    let b = leb (h .base .rows) (length keys) in
+    let c = eqb (length keys) values in
+    let rest = leb survived journalBytes && (leb survived bytes && (not (eqb (h .floor) 0) && risingKeys 0 (take (h .base .rows) keys))) in
+    let f = and-right (leb (h .base .rows) 512) (b && (c && rest)) e in
+    (leb-true _ _ (and-left b (c && rest) f), eqb-true _ _ (and-left c rest (and-right b (c && rest) f)))
+
+module _ {room : ℕ → Type 0} {ds : List Deed} {since : ℕ} {x : Cells} (m : Meant room ds since x) where
+  module _ (c : Call) (z : SizedCall c) (keys values journal : List ℕ) (r : room (length journal))
+      (h : isShaped (x .head) (length keys) (length values) (length journal) ≡ true → Holds x (end x) keys values journal) where
+    -- the cells with one record more
+    abbrev longer : Cells
+    longer =
+        record {
+          head = grown (x .head);
+          keys = keys;
+          values = values;
+          journal = appended journal (x .head .journal .used) (recordOf c (meaning (x .head) keys values journal));
+        }
+
+    accepted : number c (x .head) keys values journal ≡ 0 → Meant room (Did c ∷ ds) (suc since) longer
+    accepted e =
+        let b = shape-accepted c (x .head) keys values journal e in
+        let w = shape (x .head) (length keys) (length values) (length journal) b in
+        let q = held-meaning x keys values journal (m .shaped) w (h b) in
+        let s = meaning (x .head) keys values journal in
+        let a : answer (roomOf (length journal)) c s ≡ 0 = rw b at e in
+        let l = room-left (roomOf (length journal)) c s a in
+        let n = length-newest (x .head .journal .used) journal in
+        let k = need-some c s in
+        let i = min-le-right 2048 (length journal / recordBytes) in
+        let p = push-meaning (x .head) keys values journal (recordOf c s) (fit-call c s z) (omega arith) in
+        record {
+          events = Called (roomOf (length journal)) c ∷ m .events;
+          course =
+              ap (happen (Called (roomOf (length journal)) c)) (m .course ∙ ap (λ (t : Store). record { store = t; deeds = ds; since = since }) (sym q))
+              ∙ ap (λ (n : ℕ). ifAccepted n (record { store = push (recordOf c s) s; deeds = Did c ∷ ds; since = suc since }) (record { store = s; deeds = ds; since = since })) a
+              ∙ ap (λ (t : Store). record { store = t; deeds = Did c ∷ ds; since = suc since }) (sym p);
+          shaped = call-shaped (x .head) keys values journal w c a;
+          steady = λ bytes all. rw (all (length journal) r) (called c (m .steady bytes all));
+        }
+
+    pub meant-called : (a : Reply) (head : Head) (journal' : List ℕ) → Wrote c (x .head) keys values journal a head journal'
+        → Meant room (after (a .number) (Did c ∷ ds) ds) (after (a .number) (suc since) since)
+        (after (a .number) (record { head = head; keys = keys; values = values; journal = journal' }) x)
+    meant-called a head journal' w =
+        let told : a .number ≡ number c (x .head) keys values journal = ap (λ (r : Reply). r .number) (w .reply) in
+        split (eqb (a .number) 0)
+        (λ e.
+        let q : number c (x .head) keys values journal ≡ 0 = sym told ∙ eqb-true (a .number) 0 e in
+        let f : head ≡ grown (x .head) = w .headed ∙ ap (λ (n : ℕ). after n (grown (x .head)) (x .head)) q in
+        let g : journal' ≡ longer .journal = w .cells ∙ ap (λ (n : ℕ). after n (longer .journal) journal) q in
+        rw (e, f, g) (accepted q))
+        (λ e. rw e m)
+
+  -- a checkpoint
+  module _ (T : ℕ) (small : T < 2 ^ 64) (keys values journal : List ℕ) (spelled : Bytes journal)
+      (h : isShaped (x .head) (length keys) (length values) (length journal) ≡ true → Holds x (end x) keys values journal) where
+    abbrev before : Store
+    before = meaning (x .head) keys values journal
+
+    -- the cells that it leaves
+    abbrev shorter : Cells
+    shorter =
+        record {
+          head = checkpointHead T before;
+          keys = rowKeys (listOf T before) ++ drop (length (listOf T before)) keys;
+          values = rowValues (listOf T before) ++ drop (length (listOf T before)) values;
+          journal = compacted (kept T (before .records)) (end x) journal;
+        }
+
+    checkpoint-accepted : checkpointNumber T (x .head) keys values journal ≡ 0 → Meant room (Checkpointed T ∷ ds) 0 shorter
+    checkpoint-accepted e =
+        let b : isShaped (x .head) (length keys) (length values) (length journal) ≡ true =
+        split (isShaped (x .head) (length keys) (length values) (length journal))
+        (λ b. b)
+        (λ b. let z : _≡_ {A = ℕ} 1 0 = rw b at e in absurd (omega arith))
+        in
+        let w = shape (x .head) (length keys) (length values) (length journal) b in
+        let q = held-meaning x keys values journal (m .shaped) w (h b) in
+        let a : checkpointAnswer (rowRoom (length keys)) T before ≡ 0 = rw b at e in
+        let es = Checkpoint (rowRoom (length keys)) T ∷ m .events in
+        let p = checkpoint-meaning T (x .head) keys values journal small spelled in
+        let y : reached es ≡ record { store = checkpointed T before; deeds = Checkpointed T ∷ ds; since = 0 } =
+        ap (happen (Checkpoint (rowRoom (length keys)) T)) (m .course ∙ ap (λ (t : Store). record { store = t; deeds = ds; since = since }) (sym q))
+        ∙ ap
+        (λ (n : ℕ). ifAccepted n (record { store = checkpointed T before; deeds = Checkpointed T ∷ ds; since = 0 }) (record { store = before; deeds = ds; since = since }))
+        a
+        in
+        let some : nextOf before ≡ 0 → ⊥ = λ z. let f = subst (λ (y : Course). 1 ≤ y .store .floor) y (floor-in-range es .0) in omega arith in
+        record {
+          events = es;
+          course = y ∙ ap (λ (t : Store). record { store = t; deeds = Checkpointed T ∷ ds; since = 0 }) (sym p);
+          shaped = checkpoint-shaped (x .head) keys values journal w T a some;
+          steady = λ bytes all. checkpointed-at (rowRoom (length keys)) T (m .steady bytes all);
+        }
+
+    pub meant-checkpointed : (a : Reply) (head : Head) (keys' values' journal' : List ℕ)
+        → checkpoint.Checkpointed T (x .head) keys values journal a head keys' values' journal'
+        → Meant room (after (a .number) (Checkpointed T ∷ ds) ds) (after (a .number) 0 since)
+        (after (a .number) (record { head = head; keys = keys'; values = values'; journal = journal' }) x)
+    meant-checkpointed a head keys' values' journal' w =
+        let told : a .number ≡ checkpointNumber T (x .head) keys values journal = ap (λ (r : Reply). r .number) (w .reply) in
+        split (eqb (a .number) 0)
+        (λ e.
+        let q : checkpointNumber T (x .head) keys values journal ≡ 0 = sym told ∙ eqb-true (a .number) 0 e in
+        let f : head ≡ shorter .head = w .headed ∙ ap (λ (n : ℕ). after n (shorter .head) (x .head)) q in
+        let g : keys' ≡ shorter .keys = w .keys-column ∙ ap (λ (n : ℕ). after n (shorter .keys) keys) q in
+        let i : values' ≡ shorter .values = w .values-column ∙ ap (λ (n : ℕ). after n (shorter .values) values) q in
+        let j : journal' ≡ shorter .journal = w .cells ∙ ap (λ (n : ℕ). after n (shorter .journal) journal) q in
+        rw (e, f, g, i, j) (checkpoint-accepted q))
+        (λ e. rw e m)
+
+  -- the records that survived are the store's, but for the newest
+  pub survived-records : (survived : ℕ) → Cut x since survived → (keys values journal : List ℕ) → Recoverable (length journal) survived
+      → Holds x survived keys values journal → surviving survived journal ≡ drop (lost x survived) (meaningOf x .records)
+  survived-records survived cut keys values journal w k =
+      let used = x .head .journal .used in
+      let l : survived / recordBytes * recordBytes ≤ survived = w .there in
+      let e : used - lost x survived ≡ survived / recordBytes = omega (arith, cut .early) in
+      newest-held (survived / recordBytes) survived journal (x .journal) l (w .within) (omega (arith, cut .early, m .shaped .used)) (k .journal-held)
+      ∙ sym (drop-newest (lost x survived) used (x .journal) ∙ ap (λ (n : ℕ). newest n (x .journal)) e)
+
+  -- a restart
+  module _ (survived : ℕ) (cut : Cut x since survived) (keys values journal : List ℕ) (spelled : Bytes journal)
+      (h : isRecoverable (x .head) keys (length values) (length journal) survived ≡ true → Holds x survived keys values journal) where
+    abbrev left : List Record
+    left = surviving survived journal
+
+    -- the cells that it leaves
+    abbrev restored : Cells
+    restored = record { head = recoveredHead (x .head) left; keys = keys; values = values; journal = compacted (survivors left) survived journal }
+
+    restored-meaning : Recoverable (length journal) survived → Holds x survived keys values journal
+        → meaningOf restored ≡ recovered (lose (lost x survived) (meaningOf x))
+    restored-meaning w k =
+        let e = survived-records survived cut keys values journal w k in
+        rw (k .keys-held, k .values-held, recover-meaning (x .head) keys values journal survived spelled, e)
+
+    recover-accepted : recoverReply (x .head) keys values journal survived .number ≡ 0 → Meant room (restarted (lost x survived) ds) 0 restored
+    recover-accepted e =
+        let b : isRecoverable (x .head) keys (length values) (length journal) survived ≡ true =
+        split (isRecoverable (x .head) keys (length values) (length journal) survived)
+        (λ b. b)
+        (λ b. let z : _≡_ {A = ℕ} 1 0 = rw b at e in absurd (omega arith))
+        in
+        let w = recoverable (x .head) keys (length values) (length journal) survived b in
+        let es = Restart (lost x survived) ∷ m .events in
+        let l : lost x survived ≤ since = omega (arith, cut .late) in
+        let y : reached es ≡ record { store = recovered (lose (lost x survived) (meaningOf x)); deeds = restarted (lost x survived) ds; since = 0 } =
+        cut-goes-on (m .events) (lost x survived) (subst (λ (y : Course). lost x survived ≤ y .since) (sym (m .course)) l)
+        ∙ ap (λ (y : Course). record { store = recovered (lose (lost x survived) (y .store)); deeds = restarted (lost x survived) (y .deeds); since = 0 }) (m .course)
+        in
+        let q = restored-meaning w (h b) in
+        let z = y ∙ ap (λ (t : Store). record { store = t; deeds = restarted (lost x survived) ds; since = 0 }) (sym q) in
+        let some : next (x .head .floor) left ≡ 0 → ⊥ = λ i. let f = subst (λ (y : Course). 1 ≤ y .store .floor) z (floor-in-range es .0) in omega arith in
+        let p = paired (x .head) keys (length values) (length journal) survived b in
+        record {
+          events = es;
+          course = z;
+          shaped = recover-shaped (x .head) keys values journal survived (m .shaped .rowsLimit) (p .0) (p .1) w some;
+          steady = λ bytes all. restarted-with (lost x survived) (m .steady bytes all);
+        }
+
+    pub meant-recovered : (a : Reply) (head : Head) (journal' : List ℕ) → Recovered (x .head) keys values journal survived a head journal'
+        → Meant room (after (a .number) (restarted (lost x survived) ds) ds) (after (a .number) 0 since)
+        (after (a .number) (record { head = head; keys = keys; values = values; journal = journal' }) x)
+    meant-recovered a head journal' w =
+        let told : a .number ≡ recoverReply (x .head) keys values journal survived .number = ap (λ (r : Reply). r .number) (w .reply) in
+        split (eqb (a .number) 0)
+        (λ e.
+        let q : recoverReply (x .head) keys values journal survived .number ≡ 0 = sym told ∙ eqb-true (a .number) 0 e in
+        let f : head ≡ restored .head = w .headed ∙ ap (λ (n : ℕ). after n (restored .head) (x .head)) q in
+        let g : journal' ≡ restored .journal = w .cells ∙ ap (λ (n : ℕ). after n (restored .journal) journal) q in
+        rw (e, f, g) (recover-accepted q))
+        (λ e. rw e m)
+
+-- every store that calls reach
+pub meant : {room : ℕ → Type 0} {ds : List Deed} {since : ℕ} {x : Cells} → Reached room ds since x → Meant room ds since x
+meant cells.start =
+    record {
+      events = [];
+      course = refl;
+      shaped =
+          record { rowsLimit = omega arith; rows = omega arith; paired = refl; usedLimit = omega arith; used = omega arith; floored = λ e. omega arith };
+      steady = λ bytes all. never;
+    }
+meant (cells.called r c z keys values journal l h a head journal' w) = meant-called (meant r) c z keys values journal l h a head journal' w
+meant (cells.checkpointed r T small keys values journal bytes h a head keys' values' journal' w) =
+    meant-checkpointed (meant r) T small keys values journal bytes h a head keys' values' journal' w
+meant (cells.recovered r survived cut keys values journal bytes h a head journal' w) = meant-recovered (meant r) survived cut keys values journal bytes h a head journal' w
