@@ -3,11 +3,14 @@ ghost use mathlib.Core.Path.{_≡_};
 ghost use mathlib.Core.Bool.{cond};
 ghost use lib.ListN.{length};
 ghost use Rattle.rules.specs.Calls.{Update};
+ghost use Rattle.rules.specs.Effects.{orZero, applied};
 ghost use Rattle.answer.specs.Reply.{ofDone};
 ghost use Rattle.slot.specs.Formed.{Rowed};
 ghost use Rattle.slot.specs.Places.{hasKey, slotRows};
 ghost use Rattle.slot.specs.Slots.{slotOf};
+ghost use Rattle.versions.specs.Columns.{Lent};
 ghost use Rattle.versions.specs.Versions.{versionsOf};
+ghost use Rattle.map_store.specs.Meaning.{current};
 ghost use Rattle.map_store.specs.Shape.{Shaped, meaning, roomOf};
 ghost use Rattle.map_store.specs.Heads.{updatedHead};
 ghost use Rattle.map_store.specs.Contracts.{decided, Answered};
@@ -62,6 +65,29 @@ fn decide(
     }
 }
 
+// The running value that an effect leaves in k: an assign asks for no old value, and so for no search of the versions.
+fn running_value(
+    s: Slot,
+    keys: &[u32],
+    times: &[u64],
+    values: &[u32],
+    used: usize,
+    k: u32,
+    e: Effect,
+) -> u32
+    requires { ⌜ Rowed s × Lent used (now keys) (now times) (now values) ⌝ }
+    ensures { λ r. ⌜ r ≡ orZero (applied e (current k (s .snapshot) (slotRows s) (versionsOf used (now (keys .entry)) (now (times .entry)) (now (values .entry))))) ⌝ }
+{
+    match e {
+        Effect::Assign(v) => v,
+        Effect::Add(_) => {
+            let old = crate::current_value(s, keys, times, values, used, k);
+            let new = rules::apply(e, old);
+            new.or_zero()
+        }
+    }
+}
+
 // The head with the running value noted in the transaction's slot, if the call was accepted.
 fn note(
     h: MapHead,
@@ -83,14 +109,13 @@ fn note(
     match slots.find(n) {
         Found::At(i) => {
             let s = slots.at(i);
-            let old = crate::current_value(s, keys, times, values, h.used, k);
-            let new = rules::apply(e, old);
+            let value = running_value(s, keys, times, values, h.used, k, e);
             MapHead {
                 low: h.low,
                 last: h.last,
                 next: h.next,
                 used: h.used,
-                slots: slots.noted(i, k, new.or_zero()),
+                slots: slots.noted(i, k, value),
             }
         }
         Found::Nothing => h,

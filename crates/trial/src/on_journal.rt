@@ -436,16 +436,21 @@ fn writes28(s: Store) -> Store {
     writes4(writes4(writes4(a)))
 }
 
+// An abort in the full journal.
+fn aborted(s: Store, n: u32) -> Store {
+    let t = abort(s, n);
+    say::case(b"journal: an abort in the full journal", t.said, 0);
+    t
+}
+
 // A journal of 100 records: eight begins, 84 updates, eight aborts.
 fn rooms() {
     let s = writes28(writes28(writes28(four(four(empty())))));
     say::case(b"journal: update into the last room", s.said, 0);
     let t = add(s, 1, 1, 1);
     say::case(b"journal: update without room", t.said, 12);
-    let a = abort(abort(abort(abort(t, 1), 2), 3), 4);
-    let b = abort(abort(abort(a, 5), 6), 7);
-    let c = abort(b, 8);
-    say::case(b"journal: last of eight aborts", c.said, 0);
+    let a = aborted(aborted(aborted(aborted(t, 1), 2), 3), 4);
+    let c = aborted(aborted(aborted(aborted(a, 5), 6), 7), 8);
     let d = begin(c, 0);
     say::case(b"journal: begin in the full journal", d.said, 12);
     say::case(
@@ -490,16 +495,61 @@ fn recover(s: Store, survived: usize) -> Store {
     }
 }
 
-// 1 where the cut is accepted.
-fn cut(at: usize) -> u64 {
-    let s = recover(seventh(), at);
-    if s.said == 0 {
-        return 1;
+// Of the journal of section 7 three whole records have the first commit, at 2, and seven the second, at 3.
+const FIRST: usize = 72;
+
+const SECOND: usize = 168;
+
+// The time of the last commit that survives a cut.
+fn cut_time(at: usize) -> u64 {
+    if at < FIRST {
+        return 0;
     }
-    0
+    if at < SECOND {
+        return 2;
+    }
+    3
 }
 
-// How many of 4, of 16 and of 64 cuts from one on are accepted.
+// What key 5 holds then.
+fn cut_fifth(at: usize) -> u64 {
+    if at < FIRST {
+        return say::ABSENT;
+    }
+    if at < SECOND {
+        return 10;
+    }
+    12
+}
+
+// What key 9 holds then.
+fn cut_ninth(at: usize) -> u64 {
+    if at < SECOND {
+        return say::ABSENT;
+    }
+    7
+}
+
+// 1 where the cut is accepted, the keys hold what the whole surviving records give, and no later time is answered for.
+fn cut(at: usize) -> u64 {
+    let s = recover(seventh(), at);
+    let t = cut_time(at);
+    if s.said != 0 {
+        return 0;
+    }
+    if lookup(s, 5, t) != cut_fifth(at) {
+        return 0;
+    }
+    if lookup(s, 9, t) != cut_ninth(at) {
+        return 0;
+    }
+    if lookup_said(s, 5, wrapping_add_u64(t, 1)) != 5 {
+        return 0;
+    }
+    1
+}
+
+// How many of 4, of 16 and of 64 cuts from one on answer so.
 fn cuts4(at: usize) -> u64 {
     let a = wrapping_add_u64(cut(at), cut(wrapping_add_usize(at, 1)));
     let b = wrapping_add_u64(
@@ -540,7 +590,11 @@ fn recovery() {
     say::case(b"journal: cut at 1", cut(1), 1);
     say::case(b"journal: cut at 23", cut(23), 1);
     say::case(b"journal: cut at 24", cut(24), 1);
-    say::case(b"journal: cuts accepted of 227", cuts(), 227);
+    say::case(
+        b"journal: cuts recovered as they must be, of 227",
+        cuts(),
+        227,
+    );
     let s = recover(seventh(), 226);
     say::case(b"journal: rows after recovery", rows(s, 3), 2);
     say::case(b"journal: key 5 after recovery", lookup(s, 5, 3), 12);

@@ -7,7 +7,6 @@ use Rattle.column.specs.declared.Found.{Found}
 use Rattle.column.specs.declared.Found.the-variants.{At, Nothing}
 use Rattle.slot.specs.declared.Slots.{Slots}
 use mathlib.Core.List.{List}
-use Rattle.rules.specs.declared.Value.{Value}
 use Rattle.rules.specs.declared.Effect.{Effect}
 use Rattle.rules.specs.Effects.{orZero, applied}
 use Rattle.slot.specs.declared.Slot.{Slot}
@@ -25,12 +24,11 @@ use Rattle.map_store.proofs.update.note.Statement.{statement}
 use Rattle.map_store.proofs.update.note.Tie as tie
 
 module _ (h : MapHead) (n k : ℕ) (x : Effect) (vs : List Version) (b : Bool) (t : b ≡ true) (f : Found) (e : f ≡ slotOf (h .slots) n) where
-  told : (i : ℕ) → f ≡ At i → (s : Slot) → s ≡ slotAt (h .slots) i → (old : Value) → old ≡ current k (s .snapshot) (slotRows s) vs
-      → (new : Value) → new ≡ applied x old → (v : ℕ) → v ≡ orZero new → (changed : Slots) → changed ≡ notedIn (h .slots) i k v
-      → withSlots h changed ≡ cond b (updatedHead k x (slotOf (h .slots) n) h vs) h
-  told i g s es old eo new en v ev changed ec =
+  told : (i : ℕ) → f ≡ At i → (s : Slot) → s ≡ slotAt (h .slots) i → (v : ℕ) → v ≡ orZero (applied x (current k (s .snapshot) (slotRows s) vs))
+      → (changed : Slots) → changed ≡ notedIn (h .slots) i k v → withSlots h changed ≡ cond b (updatedHead k x (slotOf (h .slots) n) h vs) h
+  told i g s es v ev changed ec =
       let value : v ≡ orZero (applied x (current k (slotAt (h .slots) i .snapshot) (slotRows (slotAt (h .slots) i)) vs)) =
-      ev ∙ ap orZero (en ∙ ap (applied x) (eo ∙ ap (λ (y : Slot). current k (y .snapshot) (slotRows y) vs) es)) in
+      ev ∙ ap (λ (y : Slot). orZero (applied x (current k (y .snapshot) (slotRows y) vs))) es in
       rw (t, sym e ∙ g) (ap (withSlots h) (ec ∙ ap (notedIn (h .slots) i k) value))
 
   none : f ≡ Nothing → h ≡ cond b (updatedHead k x (slotOf (h .slots) n) h vs) h
@@ -53,8 +51,8 @@ at-requires c κs =
     let fd = at .before .before in
     fd .find .ensures .1 (at .i .given .0 .0) (at .i .given .1)
 
-current-value-requires : tie.Need-current-value-requires
-current-value-requires c κs =
+running-value-requires : tie.Need-running-value-requires
+running-value-requires c κs =
     let sl = c in
     let at = sl .before .before in
     let fd = at .before .before in
@@ -62,15 +60,9 @@ current-value-requires c κs =
     let a = st .args in
     (rw (sl .at .ensures) (rowed-found (a .h .slots) (a .n) _ (fd .find .ensures .0) _ (at .i .given .1) (st .pre .formed)), lent (a .h) (now (a .keys)) (now (a .times)) (now (a .values)) (st .pre))
 
-apply-requires : tie.Need-apply-requires
-apply-requires c κs = search needs
-
-or-zero-requires : tie.Need-or-zero-requires
-or-zero-requires c κs = search needs
-
 noted-requires : tie.Need-noted-requires
 noted-requires c κs =
-    let at = c .before .before .before .before .before in
+    let at = c .before .before .before in
     let fd = at .before .before in
     fd .find .ensures .1 (at .i .given .0 .0) (at .i .given .1)
 
@@ -79,16 +71,14 @@ enum-told c = search needs
 
 returns-2 : tie.Need-returns-2
 returns-2 c =
-    let oz = c .before in
-    let ef = oz .before in
-    let cv = ef .before in
-    let sl = cv .before in
+    let rv = c .before in
+    let sl = rv .before in
     let at = sl .before .before in
     let fd = at .before .before in
     let e1 = fd .before .before in
     let a = e1 .before .before .before .before .args in
     told (a .h) (a .n) (a .k) (a .e) (versionsOf (a .h .used) (now (a .keys)) (now (a .times)) (now (a .values))) (a .accepted) (not-false (a .accepted) (e1 .if1 .left))
-    _ (fd .find .ensures .0) _ (at .i .given .1) _ (sl .at .ensures) _ (cv .current-value .ensures) _ (ef .apply .ensures) _ (oz .or-zero .ensures) _ (c .noted .ensures)
+    _ (fd .find .ensures .0) _ (at .i .given .1) _ (sl .at .ensures) _ (rv .running-value .ensures) _ (c .noted .ensures)
 
 returns-3 : tie.Need-returns-3
 returns-3 c =
@@ -106,9 +96,7 @@ note-spec =
     find-requires
     enum-known-i
     at-requires
-    current-value-requires
-    apply-requires
-    or-zero-requires
+    running-value-requires
     noted-requires
     enum-told
     returns-2
