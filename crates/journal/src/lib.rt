@@ -11,6 +11,7 @@ pub mod transactions;
 pub mod walk;
 
 // The base table below the journal: how many of its rows are used.
+#[repr(C)]
 pub struct Base {
     pub rows: usize,
 }
@@ -27,6 +28,7 @@ impl Base {
 }
 
 // The journal: how many of its records are used.
+#[repr(C)]
 pub struct Journal {
     pub used: usize,
 }

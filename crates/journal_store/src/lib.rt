@@ -24,6 +24,7 @@ pub mod recover;
 pub mod update;
 
 // The journal head: low, floor, how many base rows and how many journal records are used.
+#[repr(C)]
 pub struct Head {
     pub low: u64,
     pub floor: u32,

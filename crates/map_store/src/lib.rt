@@ -26,6 +26,7 @@ pub mod read;
 pub mod update;
 
 // The map head: low, last, the next transaction number, how many versions are used, and the eight transaction slots.
+#[repr(C)]
 pub struct MapHead {
     pub low: u64,
     pub last: u64,

@@ -10,6 +10,7 @@ ghost use Rattle.slot.specs.Formed.{Formed};
 use column::Found;
 
 // A transaction's slot: its number and snapshot, and a row for each key that it wrote, with the running value. count rows are in use.
+#[repr(C)]
 pub struct Slot {
     pub number: u32,
     pub snapshot: u64,
@@ -90,6 +91,7 @@ impl Slot {
 }
 
 // The eight slots, and the number whose one bits are the occupied ones.
+#[repr(C)]
 pub struct Slots {
     pub occupied: u8,
     pub slots: [Slot; 8],

@@ -1,0 +1,41 @@
+-- `host::begun` meets its contract: the number, or the refusal. Assumes nothing.
+use mathlib.Core.Path.{_≡_, sym, ap, _∙_}
+use Rattle.answer.specs.declared.Begun.{Begun}
+use Rattle.answer.specs.Reply.{ofBegun}
+use Rattle.host.specs.Answer.{answerOf}
+use borrow.Author.Needs.{needs}
+use Rattle.host.proofs.begun.Statement.{statement}
+use Rattle.host.proofs.begun.Tie as tie
+
+enum-known-a : tie.Need-enum-known-a
+enum-known-a c = search needs
+
+cast-beside : tie.Need-cast-beside
+cast-beside c = search needs
+
+beside-requires : tie.Need-beside-requires
+beside-requires c κs = search needs
+
+enum-known-a-2 : tie.Need-enum-known-a-2
+enum-known-a-2 c = search needs
+
+refused-requires : tie.Need-refused-requires
+refused-requires c κs = search needs
+
+returns : tie.Need-returns
+returns c = c .beside .ensures ∙ sym (ap (λ (y : Begun). answerOf (ofBegun y)) (c .before .before .a .given .1))
+
+returns-2 : tie.Need-returns-2
+returns-2 c = c .refused .ensures ∙ sym (ap (λ (y : Begun). answerOf (ofBegun y)) (c .before .before .a2 .given .1))
+
+pub begun-spec : {M : Type 1} → statement M
+begun-spec =
+    tie.close
+    (tie.spec
+    enum-known-a
+    cast-beside
+    beside-requires
+    enum-known-a-2
+    refused-requires
+    returns
+    returns-2)

@@ -1,0 +1,177 @@
+-- No second answer satisfies the contract of a public function of this crate: not another answer, head or cell. And an answer loses nothing of its
+-- reply. Assumes nothing.
+use mathlib.Core.Path.{_≡_, refl, sym, ap, ap₂, _∙_}
+use mathlib.Core.Bool.{cond}
+use mathlib.Core.List.{List}
+use Prim.Native.Nat.{ℕ}
+use lib.Dec.{eqb}
+use Rattle.rules.specs.declared.Value.{Value}
+use Rattle.rules.specs.declared.Value.the-variants.{Absent, Present}
+use Rattle.rules.specs.declared.Effect.the-variants.{Assign, Add}
+use Rattle.rules.specs.Calls.{Call, Begin, Update, Abort, Commit}
+use Rattle.answer.specs.Reply.{Reply}
+use Rattle.journal_store.specs.declared.Head.{Head}
+use Rattle.journal_store.specs.Shape as journal-shape
+use Rattle.journal_store.specs.Write.{Wrote}
+use Rattle.journal_store.specs.Read.{shapedReply, readDecided, lookupDecided}
+use Rattle.journal_store.specs.List.{ListedBy}
+use Rattle.journal_store.specs.Checkpoint as journal-checkpoint
+use Rattle.journal_store.specs.Recover.{Recovered}
+use Rattle.map_store.specs.declared.MapHead.{MapHead}
+use Rattle.map_store.specs.Shape as map-shape
+use Rattle.map_store.specs.Contracts.{Answered, Committed, readReply, lookupReply, ListedAt}
+use Rattle.map_store.specs.Contracts as map-contracts
+use Rattle.host.specs.declared.Answer.{Answer}
+use Rattle.host.specs.declared.JournalOutcome.{JournalOutcome}
+use Rattle.host.specs.declared.MapOutcome.{MapOutcome}
+use Rattle.host.specs.Answer.{shown, answerOf, Answers}
+
+-- the reply that an answer tells
+abbrev replyOf : Answer → Reply
+replyOf a = record { number = a .number; value = cond (eqb (a .present) 0) Absent (Present (a .value)) }
+
+told-back : (n : ℕ) (v : Value) → replyOf (shown n v) ≡ record { number = n; value = v }
+told-back n Absent = refl
+told-back n (Present i) = refl
+
+-- two replies never have one answer
+pub reply-only : (r s : Reply) → answerOf r ≡ answerOf s → r ≡ s
+reply-only r s e = sym (told-back (r .number) (r .value)) ∙ ap replyOf e ∙ told-back (s .number) (s .value)
+
+-- answers of one reply are one answer
+same : {P Q : Reply → Type 0} {a b : Answer} (p : Answers P a) (q : Answers Q b) → p .reply ≡ q .reply → a ≡ b
+same p q e = p .shows ∙ ap answerOf e ∙ sym (q .shows)
+
+-- what is returned is its head and its answer
+journal-outcome : (a b : JournalOutcome) → a .head ≡ b .head → a .answer ≡ b .answer → a ≡ b
+journal-outcome a b e f = ap₂ (λ (h : Head) (x : Answer). record { head = h; answer = x }) e f
+
+map-outcome : (a b : MapOutcome) → a .head ≡ b .head → a .answer ≡ b .answer → a ≡ b
+map-outcome a b e f = ap₂ (λ (h : MapHead) (x : Answer). record { head = h; answer = x }) e f
+
+pub journal-empty-unique : (a b : Head) → a ≡ journal-shape.emptyHead → b ≡ journal-shape.emptyHead → a ≡ b
+journal-empty-unique a b p q = p ∙ sym q
+
+module _ (h : Head) (keys values j : List ℕ) where
+  -- begin, assign, add, abort and commit: what is returned, and the journal at exit
+  abbrev Writes : Call → JournalOutcome → List ℕ → Type 0
+  Writes c a x = Answers (λ r. Wrote c h keys values j r (a .head) x) (a .answer)
+
+  wrote-unique : (c : Call) (a b : JournalOutcome) (x y : List ℕ) → Writes c a x → Writes c b y → (a ≡ b) × (x ≡ y)
+  wrote-unique c a b x y p q = (
+    journal-outcome a b (p .meets .headed ∙ sym (q .meets .headed)) (same p q (p .meets .reply ∙ sym (q .meets .reply))),
+    p .meets .cells ∙ sym (q .meets .cells),
+  )
+
+  pub journal-begin-unique : (t : ℕ) (a b : JournalOutcome) (x y : List ℕ) → Writes (Begin t) a x → Writes (Begin t) b y → (a ≡ b) × (x ≡ y)
+  journal-begin-unique t = wrote-unique (Begin t)
+
+  pub journal-assign-unique : (n k v : ℕ) (a b : JournalOutcome) (x y : List ℕ) → Writes (Update n k (Assign v)) a x → Writes (Update n k (Assign v)) b y
+      → (a ≡ b) × (x ≡ y)
+  journal-assign-unique n k v = wrote-unique (Update n k (Assign v))
+
+  pub journal-add-unique : (n k d : ℕ) (a b : JournalOutcome) (x y : List ℕ) → Writes (Update n k (Add d)) a x → Writes (Update n k (Add d)) b y
+      → (a ≡ b) × (x ≡ y)
+  journal-add-unique n k d = wrote-unique (Update n k (Add d))
+
+  pub journal-abort-unique : (n : ℕ) (a b : JournalOutcome) (x y : List ℕ) → Writes (Abort n) a x → Writes (Abort n) b y → (a ≡ b) × (x ≡ y)
+  journal-abort-unique n = wrote-unique (Abort n)
+
+  pub journal-commit-unique : (n t : ℕ) (a b : JournalOutcome) (x y : List ℕ) → Writes (Commit n t) a x → Writes (Commit n t) b y → (a ≡ b) × (x ≡ y)
+  journal-commit-unique n t = wrote-unique (Commit n t)
+
+  pub journal-read-unique : (n k : ℕ) (a b : Answer) → Answers (λ r. r ≡ shapedReply h keys values j (readDecided n k)) a
+      → Answers (λ r. r ≡ shapedReply h keys values j (readDecided n k)) b → a ≡ b
+  journal-read-unique n k a b p q = same p q (p .meets ∙ sym (q .meets))
+
+  pub journal-lookup-unique : (k t : ℕ) (a b : Answer) → Answers (λ r. r ≡ shapedReply h keys values j (lookupDecided k t)) a
+      → Answers (λ r. r ≡ shapedReply h keys values j (lookupDecided k t)) b → a ≡ b
+  journal-lookup-unique k t a b p q = same p q (p .meets ∙ sym (q .meets))
+
+  pub journal-list-unique : (t : ℕ) (listed contents x y x' y' : List ℕ) (a b : Answer)
+      → Answers (λ r. ListedBy h keys values j t listed contents r x y) a → Answers (λ r. ListedBy h keys values j t listed contents r x' y') b
+      → (a ≡ b) × (x ≡ x') × (y ≡ y')
+  journal-list-unique t listed contents x y x' y' a b p q = (
+    same p q (p .meets .reply ∙ sym (q .meets .reply)),
+    p .meets .keys-column ∙ sym (q .meets .keys-column),
+    p .meets .values-column ∙ sym (q .meets .values-column),
+  )
+
+  pub journal-checkpoint-unique : (t : ℕ) (k v x k' v' x' : List ℕ) (a b : JournalOutcome)
+      → Answers (λ r. journal-checkpoint.Checkpointed t h keys values j r (a .head) k v x) (a .answer)
+      → Answers (λ r. journal-checkpoint.Checkpointed t h keys values j r (b .head) k' v' x') (b .answer)
+      → (a ≡ b) × (k ≡ k') × (v ≡ v') × (x ≡ x')
+  journal-checkpoint-unique t k v x k' v' x' a b p q = (
+    journal-outcome a b (p .meets .headed ∙ sym (q .meets .headed)) (same p q (p .meets .reply ∙ sym (q .meets .reply))),
+    p .meets .keys-column ∙ sym (q .meets .keys-column),
+    p .meets .values-column ∙ sym (q .meets .values-column),
+    p .meets .cells ∙ sym (q .meets .cells),
+  )
+
+  pub journal-recover-unique : (survived : ℕ) (x y : List ℕ) (a b : JournalOutcome)
+      → Answers (λ r. Recovered h keys values j survived r (a .head) x) (a .answer)
+      → Answers (λ r. Recovered h keys values j survived r (b .head) y) (b .answer) → (a ≡ b) × (x ≡ y)
+  journal-recover-unique survived x y a b p q = (
+    journal-outcome a b (p .meets .headed ∙ sym (q .meets .headed)) (same p q (p .meets .reply ∙ sym (q .meets .reply))),
+    p .meets .cells ∙ sym (q .meets .cells),
+  )
+
+pub map-empty-unique : (a b : MapHead) → a ≡ map-shape.emptyHead → b ≡ map-shape.emptyHead → a ≡ b
+map-empty-unique a b p q = p ∙ sym q
+
+module _ (h : MapHead) (ks ts vs : List ℕ) where
+  -- begin, assign, add and abort: what is returned; the columns are lent to be read
+  abbrev Gives : Call → MapOutcome → Type 0
+  Gives c a = Answers (λ r. Answered c h ks ts vs r (a .head)) (a .answer)
+
+  answered-unique : (c : Call) (a b : MapOutcome) → Gives c a → Gives c b → a ≡ b
+  answered-unique c a b p q = map-outcome a b (p .meets .headed ∙ sym (q .meets .headed)) (same p q (p .meets .reply ∙ sym (q .meets .reply)))
+
+  pub map-begin-unique : (t : ℕ) (a b : MapOutcome) → Gives (Begin t) a → Gives (Begin t) b → a ≡ b
+  map-begin-unique t = answered-unique (Begin t)
+
+  pub map-assign-unique : (n k v : ℕ) (a b : MapOutcome) → Gives (Update n k (Assign v)) a → Gives (Update n k (Assign v)) b → a ≡ b
+  map-assign-unique n k v = answered-unique (Update n k (Assign v))
+
+  pub map-add-unique : (n k d : ℕ) (a b : MapOutcome) → Gives (Update n k (Add d)) a → Gives (Update n k (Add d)) b → a ≡ b
+  map-add-unique n k d = answered-unique (Update n k (Add d))
+
+  pub map-abort-unique : (n : ℕ) (a b : MapOutcome) → Gives (Abort n) a → Gives (Abort n) b → a ≡ b
+  map-abort-unique n = answered-unique (Abort n)
+
+  pub map-commit-unique : (n t : ℕ) (k u v k' u' v' : List ℕ) (a b : MapOutcome)
+      → Answers (λ r. Committed n t h ks ts vs r (a .head) k u v) (a .answer) → Answers (λ r. Committed n t h ks ts vs r (b .head) k' u' v') (b .answer)
+      → (a ≡ b) × (k ≡ k') × (u ≡ u') × (v ≡ v')
+  map-commit-unique n t k u v k' u' v' a b p q = (
+    map-outcome a b (p .meets .answered .headed ∙ sym (q .meets .answered .headed))
+        (same p q (p .meets .answered .reply ∙ sym (q .meets .answered .reply))),
+    p .meets .keys ∙ sym (q .meets .keys),
+    p .meets .times ∙ sym (q .meets .times),
+    p .meets .values ∙ sym (q .meets .values),
+  )
+
+  pub map-read-unique : (n k : ℕ) (a b : Answer) → Answers (λ r. r ≡ readReply n k h ks ts vs) a → Answers (λ r. r ≡ readReply n k h ks ts vs) b → a ≡ b
+  map-read-unique n k a b p q = same p q (p .meets ∙ sym (q .meets))
+
+  pub map-lookup-unique : (k t : ℕ) (a b : Answer) → Answers (λ r. r ≡ lookupReply k t h ks ts vs) a → Answers (λ r. r ≡ lookupReply k t h ks ts vs) b
+      → a ≡ b
+  map-lookup-unique k t a b p q = same p q (p .meets ∙ sym (q .meets))
+
+  pub map-list-unique : (t : ℕ) (listed contents x y x' y' : List ℕ) (a b : Answer) → Answers (λ r. ListedAt t h ks ts vs listed contents r x y) a
+      → Answers (λ r. ListedAt t h ks ts vs listed contents r x' y') b → (a ≡ b) × (x ≡ x') × (y ≡ y')
+  map-list-unique t listed contents x y x' y' a b p q = (
+    same p q (p .meets .reply ∙ sym (q .meets .reply)),
+    p .meets .keys ∙ sym (q .meets .keys),
+    p .meets .values ∙ sym (q .meets .values),
+  )
+
+  pub map-checkpoint-unique : (t : ℕ) (k u v k' u' v' : List ℕ) (a b : MapOutcome)
+      → Answers (λ r. map-contracts.Checkpointed t h ks ts vs r (a .head) k u v) (a .answer)
+      → Answers (λ r. map-contracts.Checkpointed t h ks ts vs r (b .head) k' u' v') (b .answer)
+      → (a ≡ b) × (k ≡ k') × (u ≡ u') × (v ≡ v')
+  map-checkpoint-unique t k u v k' u' v' a b p q = (
+    map-outcome a b (p .meets .headed ∙ sym (q .meets .headed)) (same p q (p .meets .reply ∙ sym (q .meets .reply))),
+    p .meets .keys ∙ sym (q .meets .keys),
+    p .meets .times ∙ sym (q .meets .times),
+    p .meets .values ∙ sym (q .meets .values),
+  )

@@ -1,0 +1,213 @@
+// The calls of the journal store. Each is lent the head by value, the two base columns, keys and values, and the journal's bytes.
+ghost use mathlib.Core.Path.{_≡_};
+ghost use Rattle.rules.specs.Calls.{Begin, Update, Abort, Commit};
+ghost use Rattle.journal_store.specs.Shape.{emptyHead};
+ghost use Rattle.journal_store.specs.Write.{Wrote};
+ghost use Rattle.journal_store.specs.Read.{readDecided, lookupDecided, shapedReply};
+ghost use Rattle.journal_store.specs.List.{ListedBy};
+ghost use Rattle.journal_store.specs.Checkpoint.{Checkpointed};
+ghost use Rattle.journal_store.specs.Recover.{Recovered};
+ghost use Rattle.host.specs.Answer.{Answers};
+use crate::Answer;
+use crate::JournalOutcome;
+use journal_store::Head;
+use rules::Effect;
+
+// The head of an empty store.
+#[no_mangle]
+pub extern "C" fn registers_journal_empty() -> Head
+    ensures { λ r. ⌜ r ≡ emptyHead ⌝ }
+{
+    Head::empty()
+}
+
+// Begins a transaction that reads as of t, and answers its number. Refusals 1, 4, 5, 6, 7, 12.
+#[no_mangle]
+pub extern "C" fn registers_journal_begin(
+    h: Head,
+    keys: &[u32],
+    values: &[u32],
+    journal: &mut [u8],
+    t: u64,
+) -> JournalOutcome
+    ensures { λ r. ⌜ Answers (λ a. Wrote (Begin t) h (now (keys .entry)) (now (values .entry)) (now (journal .entry)) a (r .head) (now (journal .exit))) (r .answer) ⌝ }
+{
+    let o = journal_store::begin::begin(h, keys, values, journal, t);
+    let head = o.head;
+    let answer = o.answer;
+    JournalOutcome {
+        head,
+        answer: crate::begun(answer),
+    }
+}
+
+// A running transaction gives key k the value v. Refusals 1, 2, 3, 8, 12.
+#[no_mangle]
+pub extern "C" fn registers_journal_assign(
+    h: Head,
+    keys: &[u32],
+    values: &[u32],
+    journal: &mut [u8],
+    n: u32,
+    k: u32,
+    v: u32,
+) -> JournalOutcome
+    ensures { λ r. ⌜ Answers (λ a. Wrote (Update n k (Effect.Assign v)) h (now (keys .entry)) (now (values .entry)) (now (journal .entry)) a (r .head) (now (journal .exit))) (r .answer) ⌝ }
+{
+    let o = journal_store::update::update(h, keys, values, journal, n, k, Effect::Assign(v));
+    let head = o.head;
+    let answer = o.answer;
+    JournalOutcome {
+        head,
+        answer: crate::done(answer),
+    }
+}
+
+// A running transaction adds d to key k. Refusals 1, 2, 3, 8, 12.
+#[no_mangle]
+pub extern "C" fn registers_journal_add(
+    h: Head,
+    keys: &[u32],
+    values: &[u32],
+    journal: &mut [u8],
+    n: u32,
+    k: u32,
+    d: u32,
+) -> JournalOutcome
+    ensures { λ r. ⌜ Answers (λ a. Wrote (Update n k (Effect.Add d)) h (now (keys .entry)) (now (values .entry)) (now (journal .entry)) a (r .head) (now (journal .exit))) (r .answer) ⌝ }
+{
+    let o = journal_store::update::update(h, keys, values, journal, n, k, Effect::Add(d));
+    let head = o.head;
+    let answer = o.answer;
+    JournalOutcome {
+        head,
+        answer: crate::done(answer),
+    }
+}
+
+// Ends a running transaction; its updates have no effect. Refusals 1, 2, 12.
+#[no_mangle]
+pub extern "C" fn registers_journal_abort(
+    h: Head,
+    keys: &[u32],
+    values: &[u32],
+    journal: &mut [u8],
+    n: u32,
+) -> JournalOutcome
+    ensures { λ r. ⌜ Answers (λ a. Wrote (Abort n) h (now (keys .entry)) (now (values .entry)) (now (journal .entry)) a (r .head) (now (journal .exit))) (r .answer) ⌝ }
+{
+    let o = journal_store::abort::abort(h, keys, values, journal, n);
+    let head = o.head;
+    let answer = o.answer;
+    JournalOutcome {
+        head,
+        answer: crate::done(answer),
+    }
+}
+
+// Commits a running transaction at t, a time later than last. Refusals 1, 2, 10, 11, 12.
+#[no_mangle]
+pub extern "C" fn registers_journal_commit(
+    h: Head,
+    keys: &[u32],
+    values: &[u32],
+    journal: &mut [u8],
+    n: u32,
+    t: u64,
+) -> JournalOutcome
+    ensures { λ r. ⌜ Answers (λ a. Wrote (Commit n t) h (now (keys .entry)) (now (values .entry)) (now (journal .entry)) a (r .head) (now (journal .exit))) (r .answer) ⌝ }
+{
+    let o = journal_store::commit::commit(h, keys, values, journal, n, t);
+    let head = o.head;
+    let answer = o.answer;
+    JournalOutcome {
+        head,
+        answer: crate::done(answer),
+    }
+}
+
+// The value of k as a running transaction sees it, or absent. Refusals 1, 2, 3.
+#[no_mangle]
+pub extern "C" fn registers_journal_read(
+    h: Head,
+    keys: &[u32],
+    values: &[u32],
+    journal: &[u8],
+    n: u32,
+    k: u32,
+) -> Answer
+    ensures { λ r. ⌜ Answers (λ a. a ≡ shapedReply h (now (keys .entry)) (now (values .entry)) (now (journal .entry)) (readDecided n k)) r ⌝ }
+{
+    crate::got(journal_store::read::read(h, keys, values, journal, n, k))
+}
+
+// The committed value of k at t, or absent. Refusals 1, 3, 4, 5.
+#[no_mangle]
+pub extern "C" fn registers_journal_lookup(
+    h: Head,
+    keys: &[u32],
+    values: &[u32],
+    journal: &[u8],
+    k: u32,
+    t: u64,
+) -> Answer
+    ensures { λ r. ⌜ Answers (λ a. a ≡ shapedReply h (now (keys .entry)) (now (values .entry)) (now (journal .entry)) (lookupDecided k t)) r ⌝ }
+{
+    crate::got(journal_store::lookup::lookup(h, keys, values, journal, k, t))
+}
+
+// The list at t, into two lent columns, keys and values; answers the count of rows. Refusals 1, 4, 5, 12.
+#[no_mangle]
+pub extern "C" fn registers_journal_list(
+    h: Head,
+    keys: &[u32],
+    values: &[u32],
+    journal: &[u8],
+    t: u64,
+    listed: &mut [u32],
+    contents: &mut [u32],
+) -> Answer
+    ensures { λ r. ⌜ Answers (λ a. ListedBy h (now (keys .entry)) (now (values .entry)) (now (journal .entry)) t (now (listed .entry)) (now (contents .entry)) a (now (listed .exit)) (now (contents .exit))) r ⌝ }
+{
+    crate::listed(journal_store::list::list(h, keys, values, journal, t, listed, contents))
+}
+
+// The base becomes the list at t, and the journal keeps what is still needed. Refusals 1, 4, 5, 9, 12.
+#[no_mangle]
+pub extern "C" fn registers_journal_checkpoint(
+    h: Head,
+    keys: &mut [u32],
+    values: &mut [u32],
+    journal: &mut [u8],
+    t: u64,
+) -> JournalOutcome
+    ensures { λ r. ⌜ Answers (λ a. Checkpointed t h (now (keys .entry)) (now (values .entry)) (now (journal .entry)) a (r .head) (now (keys .exit)) (now (values .exit)) (now (journal .exit))) (r .answer) ⌝ }
+{
+    let o = journal_store::checkpoint::checkpoint(h, keys, values, journal, t);
+    let head = o.head;
+    let answer = o.answer;
+    JournalOutcome {
+        head,
+        answer: crate::done(answer),
+    }
+}
+
+// Takes the bytes that survived a restart for the journal; 13 comes with the place of the first record that fails. Refusals 1, 13.
+#[no_mangle]
+pub extern "C" fn registers_journal_recover(
+    h: Head,
+    keys: &[u32],
+    values: &[u32],
+    journal: &mut [u8],
+    survived: usize,
+) -> JournalOutcome
+    ensures { λ r. ⌜ Answers (λ a. Recovered h (now (keys .entry)) (now (values .entry)) (now (journal .entry)) survived a (r .head) (now (journal .exit))) (r .answer) ⌝ }
+{
+    let o = journal_store::recover::recover(h, keys, values, journal, survived);
+    let head = o.head;
+    let answer = o.answer;
+    JournalOutcome {
+        head,
+        answer: crate::done(answer),
+    }
+}

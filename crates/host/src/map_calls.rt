@@ -1,0 +1,189 @@
+// The calls of the map store. Each is lent the head by value and the three version columns, keys, times and values.
+ghost use mathlib.Core.Path.{_≡_};
+ghost use Rattle.rules.specs.Calls.{Begin, Update, Abort};
+ghost use Rattle.map_store.specs.Shape.{emptyHead};
+ghost use Rattle.map_store.specs.Contracts.{Answered, Committed, readReply, lookupReply, ListedAt, Checkpointed};
+ghost use Rattle.host.specs.Answer.{Answers};
+use crate::Answer;
+use crate::MapOutcome;
+use map_store::MapHead;
+use rules::Effect;
+
+// The head of an empty store.
+#[no_mangle]
+pub extern "C" fn registers_map_empty() -> MapHead
+    ensures { λ r. ⌜ r ≡ emptyHead ⌝ }
+{
+    MapHead::empty()
+}
+
+// Begins a transaction that reads as of t, and answers its number. Refusals 1, 4, 5, 6, 7.
+#[no_mangle]
+pub extern "C" fn registers_map_begin(
+    h: MapHead,
+    keys: &[u32],
+    times: &[u64],
+    values: &[u32],
+    t: u64,
+) -> MapOutcome
+    ensures { λ r. ⌜ Answers (λ a. Answered (Begin t) h (now (keys .entry)) (now (times .entry)) (now (values .entry)) a (r .head)) (r .answer) ⌝ }
+{
+    let o = map_store::begin::begin(h, keys, times, values, t);
+    let head = o.head;
+    let answer = o.answer;
+    MapOutcome {
+        head,
+        answer: crate::begun(answer),
+    }
+}
+
+// A running transaction gives key k the value v. Refusals 1, 2, 3, 8.
+#[no_mangle]
+pub extern "C" fn registers_map_assign(
+    h: MapHead,
+    keys: &[u32],
+    times: &[u64],
+    values: &[u32],
+    n: u32,
+    k: u32,
+    v: u32,
+) -> MapOutcome
+    ensures { λ r. ⌜ Answers (λ a. Answered (Update n k (Effect.Assign v)) h (now (keys .entry)) (now (times .entry)) (now (values .entry)) a (r .head)) (r .answer) ⌝ }
+{
+    let o = map_store::update::update(h, keys, times, values, n, k, Effect::Assign(v));
+    let head = o.head;
+    let answer = o.answer;
+    MapOutcome {
+        head,
+        answer: crate::done(answer),
+    }
+}
+
+// A running transaction adds d to key k. Refusals 1, 2, 3, 8.
+#[no_mangle]
+pub extern "C" fn registers_map_add(
+    h: MapHead,
+    keys: &[u32],
+    times: &[u64],
+    values: &[u32],
+    n: u32,
+    k: u32,
+    d: u32,
+) -> MapOutcome
+    ensures { λ r. ⌜ Answers (λ a. Answered (Update n k (Effect.Add d)) h (now (keys .entry)) (now (times .entry)) (now (values .entry)) a (r .head)) (r .answer) ⌝ }
+{
+    let o = map_store::update::update(h, keys, times, values, n, k, Effect::Add(d));
+    let head = o.head;
+    let answer = o.answer;
+    MapOutcome {
+        head,
+        answer: crate::done(answer),
+    }
+}
+
+// Ends a running transaction; its updates have no effect. Refusals 1, 2.
+#[no_mangle]
+pub extern "C" fn registers_map_abort(
+    h: MapHead,
+    keys: &[u32],
+    times: &[u64],
+    values: &[u32],
+    n: u32,
+) -> MapOutcome
+    ensures { λ r. ⌜ Answers (λ a. Answered (Abort n) h (now (keys .entry)) (now (times .entry)) (now (values .entry)) a (r .head)) (r .answer) ⌝ }
+{
+    let o = map_store::abort::abort(h, keys, times, values, n);
+    let head = o.head;
+    let answer = o.answer;
+    MapOutcome {
+        head,
+        answer: crate::done(answer),
+    }
+}
+
+// Commits a running transaction at t, a time later than last. Refusals 1, 2, 10, 11, 12.
+#[no_mangle]
+pub extern "C" fn registers_map_commit(
+    h: MapHead,
+    keys: &mut [u32],
+    times: &mut [u64],
+    values: &mut [u32],
+    n: u32,
+    t: u64,
+) -> MapOutcome
+    ensures { λ r. ⌜ Answers (λ a. Committed n t h (now (keys .entry)) (now (times .entry)) (now (values .entry)) a (r .head) (now (keys .exit)) (now (times .exit)) (now (values .exit))) (r .answer) ⌝ }
+{
+    let o = map_store::commit::commit(h, keys, times, values, n, t);
+    let head = o.head;
+    let answer = o.answer;
+    MapOutcome {
+        head,
+        answer: crate::done(answer),
+    }
+}
+
+// The value of k as a running transaction sees it, or absent. Refusals 1, 2, 3.
+#[no_mangle]
+pub extern "C" fn registers_map_read(
+    h: MapHead,
+    keys: &[u32],
+    times: &[u64],
+    values: &[u32],
+    n: u32,
+    k: u32,
+) -> Answer
+    ensures { λ r. ⌜ Answers (λ a. a ≡ readReply n k h (now (keys .entry)) (now (times .entry)) (now (values .entry))) r ⌝ }
+{
+    crate::got(map_store::read::read(h, keys, times, values, n, k))
+}
+
+// The committed value of k at t, or absent. Refusals 1, 3, 4, 5.
+#[no_mangle]
+pub extern "C" fn registers_map_lookup(
+    h: MapHead,
+    keys: &[u32],
+    times: &[u64],
+    values: &[u32],
+    k: u32,
+    t: u64,
+) -> Answer
+    ensures { λ r. ⌜ Answers (λ a. a ≡ lookupReply k t h (now (keys .entry)) (now (times .entry)) (now (values .entry))) r ⌝ }
+{
+    crate::got(map_store::lookup::lookup(h, keys, times, values, k, t))
+}
+
+// The list at t, into two lent columns, keys and values; answers the count of rows. Refusals 1, 4, 5, 12.
+#[no_mangle]
+pub extern "C" fn registers_map_list(
+    h: MapHead,
+    keys: &[u32],
+    times: &[u64],
+    values: &[u32],
+    t: u64,
+    listed: &mut [u32],
+    contents: &mut [u32],
+) -> Answer
+    ensures { λ r. ⌜ Answers (λ a. ListedAt t h (now (keys .entry)) (now (times .entry)) (now (values .entry)) (now (listed .entry)) (now (contents .entry)) a (now (listed .exit)) (now (contents .exit))) r ⌝ }
+{
+    crate::listed(map_store::list::list(h, keys, times, values, t, listed, contents))
+}
+
+// Low becomes t; kept are the versions after t and, for each key, its newest at or before t. Refusals 1, 4, 5, 9.
+#[no_mangle]
+pub extern "C" fn registers_map_checkpoint(
+    h: MapHead,
+    keys: &mut [u32],
+    times: &mut [u64],
+    values: &mut [u32],
+    t: u64,
+) -> MapOutcome
+    ensures { λ r. ⌜ Answers (λ a. Checkpointed t h (now (keys .entry)) (now (times .entry)) (now (values .entry)) a (r .head) (now (keys .exit)) (now (times .exit)) (now (values .exit))) (r .answer) ⌝ }
+{
+    let o = map_store::checkpoint::checkpoint(h, keys, times, values, t);
+    let head = o.head;
+    let answer = o.answer;
+    MapOutcome {
+        head,
+        answer: crate::done(answer),
+    }
+}
