@@ -1,10 +1,14 @@
--- The answer of a reply, as a host gets it: three numbers. Assumes nothing.
+-- The answer of a reply as a host gets it, three numbers, and how it is said of it that a contract of a store holds. Assumes nothing.
 use mathlib.Core.Path.{_≡_}
 use Prim.Native.Nat.{ℕ}
 use Rattle.rules.specs.declared.Value.{Value}
 use Rattle.rules.specs.declared.Value.the-variants.{Absent, Present}
 use Rattle.answer.specs.Reply.{Reply}
+use Rattle.journal_store.specs.declared.Head.{Head}
+use Rattle.map_store.specs.declared.MapHead.{MapHead}
 use Rattle.host.specs.declared.Answer.{Answer}
+use Rattle.host.specs.declared.JournalOutcome.{JournalOutcome}
+use Rattle.host.specs.declared.MapOutcome.{MapOutcome}
 
 -- a number with a value beside it: 1 and the value, or 0 and 0 for none
 abbrev pub shown : ℕ → Value → Answer
@@ -20,3 +24,19 @@ pub record Answers (holds : Reply → Type 0) (a : Answer) : Type 0 where
   pub reply : Reply
   pub shows : a ≡ answerOf reply
   pub meets : holds reply
+
+-- what is returned is a head and the answer of a reply of which a contract of the journal store holds
+pub record JournalReturns (holds : Reply → Head → Type 0) (r : JournalOutcome) : Type 0 where
+  pub reply : Reply
+  pub head : Head
+  pub heads : r .head ≡ head
+  pub shows : r .answer ≡ answerOf reply
+  pub meets : holds reply head
+
+-- the same of the map store
+pub record MapReturns (holds : Reply → MapHead → Type 0) (r : MapOutcome) : Type 0 where
+  pub reply : Reply
+  pub head : MapHead
+  pub heads : r .head ≡ head
+  pub shows : r .answer ≡ answerOf reply
+  pub meets : holds reply head

@@ -24,7 +24,7 @@ use Rattle.map_store.specs.Contracts as map-contracts
 use Rattle.host.specs.declared.Answer.{Answer}
 use Rattle.host.specs.declared.JournalOutcome.{JournalOutcome}
 use Rattle.host.specs.declared.MapOutcome.{MapOutcome}
-use Rattle.host.specs.Answer.{shown, answerOf, Answers}
+use Rattle.host.specs.Answer.{shown, answerOf, Answers, JournalReturns, MapReturns}
 
 -- the reply that an answer tells
 abbrev replyOf : Answer → Reply
@@ -42,12 +42,16 @@ reply-only r s e = sym (told-back (r .number) (r .value)) ∙ ap replyOf e ∙ t
 same : {P Q : Reply → Type 0} {a b : Answer} (p : Answers P a) (q : Answers Q b) → p .reply ≡ q .reply → a ≡ b
 same p q e = p .shows ∙ ap answerOf e ∙ sym (q .shows)
 
--- what is returned is its head and its answer
-journal-outcome : (a b : JournalOutcome) → a .head ≡ b .head → a .answer ≡ b .answer → a ≡ b
-journal-outcome a b e f = ap₂ (λ (h : Head) (x : Answer). record { head = h; answer = x }) e f
+-- what is returned is its head and its answer: those of one head and one reply are one
+journal-same : {P Q : Reply → Head → Type 0} {a b : JournalOutcome} (p : JournalReturns P a) (q : JournalReturns Q b) → p .head ≡ q .head
+    → p .reply ≡ q .reply → a ≡ b
+journal-same p q e f =
+    ap₂ (λ (h : Head) (x : Answer). record { head = h; answer = x }) (p .heads ∙ e ∙ sym (q .heads)) (p .shows ∙ ap answerOf f ∙ sym (q .shows))
 
-map-outcome : (a b : MapOutcome) → a .head ≡ b .head → a .answer ≡ b .answer → a ≡ b
-map-outcome a b e f = ap₂ (λ (h : MapHead) (x : Answer). record { head = h; answer = x }) e f
+map-same : {P Q : Reply → MapHead → Type 0} {a b : MapOutcome} (p : MapReturns P a) (q : MapReturns Q b) → p .head ≡ q .head
+    → p .reply ≡ q .reply → a ≡ b
+map-same p q e f =
+    ap₂ (λ (h : MapHead) (x : Answer). record { head = h; answer = x }) (p .heads ∙ e ∙ sym (q .heads)) (p .shows ∙ ap answerOf f ∙ sym (q .shows))
 
 pub journal-empty-unique : (a b : Head) → a ≡ journal-shape.emptyHead → b ≡ journal-shape.emptyHead → a ≡ b
 journal-empty-unique a b p q = p ∙ sym q
@@ -55,11 +59,11 @@ journal-empty-unique a b p q = p ∙ sym q
 module _ (h : Head) (keys values j : List ℕ) where
   -- begin, assign, add, abort and commit: what is returned, and the journal at exit
   abbrev Writes : Call → JournalOutcome → List ℕ → Type 0
-  Writes c a x = Answers (λ r. Wrote c h keys values j r (a .head) x) (a .answer)
+  Writes c a x = JournalReturns (λ r head. Wrote c h keys values j r head x) a
 
   wrote-unique : (c : Call) (a b : JournalOutcome) (x y : List ℕ) → Writes c a x → Writes c b y → (a ≡ b) × (x ≡ y)
   wrote-unique c a b x y p q = (
-    journal-outcome a b (p .meets .headed ∙ sym (q .meets .headed)) (same p q (p .meets .reply ∙ sym (q .meets .reply))),
+    journal-same p q (p .meets .headed ∙ sym (q .meets .headed)) (p .meets .reply ∙ sym (q .meets .reply)),
     p .meets .cells ∙ sym (q .meets .cells),
   )
 
@@ -98,21 +102,21 @@ module _ (h : Head) (keys values j : List ℕ) where
   )
 
   pub journal-checkpoint-unique : (t : ℕ) (k v x k' v' x' : List ℕ) (a b : JournalOutcome)
-      → Answers (λ r. journal-checkpoint.Checkpointed t h keys values j r (a .head) k v x) (a .answer)
-      → Answers (λ r. journal-checkpoint.Checkpointed t h keys values j r (b .head) k' v' x') (b .answer)
+      → JournalReturns (λ r head. journal-checkpoint.Checkpointed t h keys values j r head k v x) a
+      → JournalReturns (λ r head. journal-checkpoint.Checkpointed t h keys values j r head k' v' x') b
       → (a ≡ b) × (k ≡ k') × (v ≡ v') × (x ≡ x')
   journal-checkpoint-unique t k v x k' v' x' a b p q = (
-    journal-outcome a b (p .meets .headed ∙ sym (q .meets .headed)) (same p q (p .meets .reply ∙ sym (q .meets .reply))),
+    journal-same p q (p .meets .headed ∙ sym (q .meets .headed)) (p .meets .reply ∙ sym (q .meets .reply)),
     p .meets .keys-column ∙ sym (q .meets .keys-column),
     p .meets .values-column ∙ sym (q .meets .values-column),
     p .meets .cells ∙ sym (q .meets .cells),
   )
 
   pub journal-recover-unique : (survived : ℕ) (x y : List ℕ) (a b : JournalOutcome)
-      → Answers (λ r. Recovered h keys values j survived r (a .head) x) (a .answer)
-      → Answers (λ r. Recovered h keys values j survived r (b .head) y) (b .answer) → (a ≡ b) × (x ≡ y)
+      → JournalReturns (λ r head. Recovered h keys values j survived r head x) a
+      → JournalReturns (λ r head. Recovered h keys values j survived r head y) b → (a ≡ b) × (x ≡ y)
   journal-recover-unique survived x y a b p q = (
-    journal-outcome a b (p .meets .headed ∙ sym (q .meets .headed)) (same p q (p .meets .reply ∙ sym (q .meets .reply))),
+    journal-same p q (p .meets .headed ∙ sym (q .meets .headed)) (p .meets .reply ∙ sym (q .meets .reply)),
     p .meets .cells ∙ sym (q .meets .cells),
   )
 
@@ -122,10 +126,10 @@ map-empty-unique a b p q = p ∙ sym q
 module _ (h : MapHead) (ks ts vs : List ℕ) where
   -- begin, assign, add and abort: what is returned; the columns are lent to be read
   abbrev Gives : Call → MapOutcome → Type 0
-  Gives c a = Answers (λ r. Answered c h ks ts vs r (a .head)) (a .answer)
+  Gives c a = MapReturns (λ r head. Answered c h ks ts vs r head) a
 
   answered-unique : (c : Call) (a b : MapOutcome) → Gives c a → Gives c b → a ≡ b
-  answered-unique c a b p q = map-outcome a b (p .meets .headed ∙ sym (q .meets .headed)) (same p q (p .meets .reply ∙ sym (q .meets .reply)))
+  answered-unique c a b p q = map-same p q (p .meets .headed ∙ sym (q .meets .headed)) (p .meets .reply ∙ sym (q .meets .reply))
 
   pub map-begin-unique : (t : ℕ) (a b : MapOutcome) → Gives (Begin t) a → Gives (Begin t) b → a ≡ b
   map-begin-unique t = answered-unique (Begin t)
@@ -140,11 +144,10 @@ module _ (h : MapHead) (ks ts vs : List ℕ) where
   map-abort-unique n = answered-unique (Abort n)
 
   pub map-commit-unique : (n t : ℕ) (k u v k' u' v' : List ℕ) (a b : MapOutcome)
-      → Answers (λ r. Committed n t h ks ts vs r (a .head) k u v) (a .answer) → Answers (λ r. Committed n t h ks ts vs r (b .head) k' u' v') (b .answer)
+      → MapReturns (λ r head. Committed n t h ks ts vs r head k u v) a → MapReturns (λ r head. Committed n t h ks ts vs r head k' u' v') b
       → (a ≡ b) × (k ≡ k') × (u ≡ u') × (v ≡ v')
   map-commit-unique n t k u v k' u' v' a b p q = (
-    map-outcome a b (p .meets .answered .headed ∙ sym (q .meets .answered .headed))
-        (same p q (p .meets .answered .reply ∙ sym (q .meets .answered .reply))),
+    map-same p q (p .meets .answered .headed ∙ sym (q .meets .answered .headed)) (p .meets .answered .reply ∙ sym (q .meets .answered .reply)),
     p .meets .keys ∙ sym (q .meets .keys),
     p .meets .times ∙ sym (q .meets .times),
     p .meets .values ∙ sym (q .meets .values),
@@ -166,11 +169,11 @@ module _ (h : MapHead) (ks ts vs : List ℕ) where
   )
 
   pub map-checkpoint-unique : (t : ℕ) (k u v k' u' v' : List ℕ) (a b : MapOutcome)
-      → Answers (λ r. map-contracts.Checkpointed t h ks ts vs r (a .head) k u v) (a .answer)
-      → Answers (λ r. map-contracts.Checkpointed t h ks ts vs r (b .head) k' u' v') (b .answer)
+      → MapReturns (λ r head. map-contracts.Checkpointed t h ks ts vs r head k u v) a
+      → MapReturns (λ r head. map-contracts.Checkpointed t h ks ts vs r head k' u' v') b
       → (a ≡ b) × (k ≡ k') × (u ≡ u') × (v ≡ v')
   map-checkpoint-unique t k u v k' u' v' a b p q = (
-    map-outcome a b (p .meets .headed ∙ sym (q .meets .headed)) (same p q (p .meets .reply ∙ sym (q .meets .reply))),
+    map-same p q (p .meets .headed ∙ sym (q .meets .headed)) (p .meets .reply ∙ sym (q .meets .reply)),
     p .meets .keys ∙ sym (q .meets .keys),
     p .meets .times ∙ sym (q .meets .times),
     p .meets .values ∙ sym (q .meets .values),

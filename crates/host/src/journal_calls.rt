@@ -7,11 +7,38 @@ ghost use Rattle.journal_store.specs.Read.{readDecided, lookupDecided, shapedRe
 ghost use Rattle.journal_store.specs.List.{ListedBy};
 ghost use Rattle.journal_store.specs.Checkpoint.{Checkpointed};
 ghost use Rattle.journal_store.specs.Recover.{Recovered};
-ghost use Rattle.host.specs.Answer.{Answers};
+ghost use Rattle.answer.specs.Reply.{ofBegun, ofDone};
+ghost use Rattle.host.specs.Answer.{answerOf, Answers, JournalReturns};
 use crate::Answer;
 use crate::JournalOutcome;
 use journal_store::Head;
+use journal_store::Outcome;
+use journal_store::Started;
 use rules::Effect;
+
+// What begin returns.
+fn started(o: Started) -> JournalOutcome
+    ensures { λ r. ⌜ (r .head ≡ o .head) × (r .answer ≡ answerOf (ofBegun (o .answer))) ⌝ }
+{
+    let head = o.head;
+    let answer = o.answer;
+    JournalOutcome {
+        head,
+        answer: crate::begun(answer),
+    }
+}
+
+// What the other calls return that change the store.
+fn ended(o: Outcome) -> JournalOutcome
+    ensures { λ r. ⌜ (r .head ≡ o .head) × (r .answer ≡ answerOf (ofDone (o .answer))) ⌝ }
+{
+    let head = o.head;
+    let answer = o.answer;
+    JournalOutcome {
+        head,
+        answer: crate::done(answer),
+    }
+}
 
 // The head of an empty store.
 #[no_mangle]
@@ -30,15 +57,9 @@ pub extern "C" fn registers_journal_begin(
     journal: &mut [u8],
     t: u64,
 ) -> JournalOutcome
-    ensures { λ r. ⌜ Answers (λ a. Wrote (Begin t) h (now (keys .entry)) (now (values .entry)) (now (journal .entry)) a (r .head) (now (journal .exit))) (r .answer) ⌝ }
+    ensures { λ r. ⌜ JournalReturns (λ a head. Wrote (Begin t) h (now (keys .entry)) (now (values .entry)) (now (journal .entry)) a head (now (journal .exit))) r ⌝ }
 {
-    let o = journal_store::begin::begin(h, keys, values, journal, t);
-    let head = o.head;
-    let answer = o.answer;
-    JournalOutcome {
-        head,
-        answer: crate::begun(answer),
-    }
+    started(journal_store::begin::begin(h, keys, values, journal, t))
 }
 
 // A running transaction gives key k the value v. Refusals 1, 2, 3, 8, 12.
@@ -52,15 +73,9 @@ pub extern "C" fn registers_journal_assign(
     k: u32,
     v: u32,
 ) -> JournalOutcome
-    ensures { λ r. ⌜ Answers (λ a. Wrote (Update n k (Effect.Assign v)) h (now (keys .entry)) (now (values .entry)) (now (journal .entry)) a (r .head) (now (journal .exit))) (r .answer) ⌝ }
+    ensures { λ r. ⌜ JournalReturns (λ a head. Wrote (Update n k (Effect.Assign v)) h (now (keys .entry)) (now (values .entry)) (now (journal .entry)) a head (now (journal .exit))) r ⌝ }
 {
-    let o = journal_store::update::update(h, keys, values, journal, n, k, Effect::Assign(v));
-    let head = o.head;
-    let answer = o.answer;
-    JournalOutcome {
-        head,
-        answer: crate::done(answer),
-    }
+    ended(journal_store::update::update(h, keys, values, journal, n, k, Effect::Assign(v)))
 }
 
 // A running transaction adds d to key k. Refusals 1, 2, 3, 8, 12.
@@ -74,15 +89,9 @@ pub extern "C" fn registers_journal_add(
     k: u32,
     d: u32,
 ) -> JournalOutcome
-    ensures { λ r. ⌜ Answers (λ a. Wrote (Update n k (Effect.Add d)) h (now (keys .entry)) (now (values .entry)) (now (journal .entry)) a (r .head) (now (journal .exit))) (r .answer) ⌝ }
+    ensures { λ r. ⌜ JournalReturns (λ a head. Wrote (Update n k (Effect.Add d)) h (now (keys .entry)) (now (values .entry)) (now (journal .entry)) a head (now (journal .exit))) r ⌝ }
 {
-    let o = journal_store::update::update(h, keys, values, journal, n, k, Effect::Add(d));
-    let head = o.head;
-    let answer = o.answer;
-    JournalOutcome {
-        head,
-        answer: crate::done(answer),
-    }
+    ended(journal_store::update::update(h, keys, values, journal, n, k, Effect::Add(d)))
 }
 
 // Ends a running transaction; its updates have no effect. Refusals 1, 2, 12.
@@ -94,15 +103,9 @@ pub extern "C" fn registers_journal_abort(
     journal: &mut [u8],
     n: u32,
 ) -> JournalOutcome
-    ensures { λ r. ⌜ Answers (λ a. Wrote (Abort n) h (now (keys .entry)) (now (values .entry)) (now (journal .entry)) a (r .head) (now (journal .exit))) (r .answer) ⌝ }
+    ensures { λ r. ⌜ JournalReturns (λ a head. Wrote (Abort n) h (now (keys .entry)) (now (values .entry)) (now (journal .entry)) a head (now (journal .exit))) r ⌝ }
 {
-    let o = journal_store::abort::abort(h, keys, values, journal, n);
-    let head = o.head;
-    let answer = o.answer;
-    JournalOutcome {
-        head,
-        answer: crate::done(answer),
-    }
+    ended(journal_store::abort::abort(h, keys, values, journal, n))
 }
 
 // Commits a running transaction at t, a time later than last. Refusals 1, 2, 10, 11, 12.
@@ -115,15 +118,9 @@ pub extern "C" fn registers_journal_commit(
     n: u32,
     t: u64,
 ) -> JournalOutcome
-    ensures { λ r. ⌜ Answers (λ a. Wrote (Commit n t) h (now (keys .entry)) (now (values .entry)) (now (journal .entry)) a (r .head) (now (journal .exit))) (r .answer) ⌝ }
+    ensures { λ r. ⌜ JournalReturns (λ a head. Wrote (Commit n t) h (now (keys .entry)) (now (values .entry)) (now (journal .entry)) a head (now (journal .exit))) r ⌝ }
 {
-    let o = journal_store::commit::commit(h, keys, values, journal, n, t);
-    let head = o.head;
-    let answer = o.answer;
-    JournalOutcome {
-        head,
-        answer: crate::done(answer),
-    }
+    ended(journal_store::commit::commit(h, keys, values, journal, n, t))
 }
 
 // The value of k as a running transaction sees it, or absent. Refusals 1, 2, 3.
@@ -181,15 +178,9 @@ pub extern "C" fn registers_journal_checkpoint(
     journal: &mut [u8],
     t: u64,
 ) -> JournalOutcome
-    ensures { λ r. ⌜ Answers (λ a. Checkpointed t h (now (keys .entry)) (now (values .entry)) (now (journal .entry)) a (r .head) (now (keys .exit)) (now (values .exit)) (now (journal .exit))) (r .answer) ⌝ }
+    ensures { λ r. ⌜ JournalReturns (λ a head. Checkpointed t h (now (keys .entry)) (now (values .entry)) (now (journal .entry)) a head (now (keys .exit)) (now (values .exit)) (now (journal .exit))) r ⌝ }
 {
-    let o = journal_store::checkpoint::checkpoint(h, keys, values, journal, t);
-    let head = o.head;
-    let answer = o.answer;
-    JournalOutcome {
-        head,
-        answer: crate::done(answer),
-    }
+    ended(journal_store::checkpoint::checkpoint(h, keys, values, journal, t))
 }
 
 // Takes the bytes that survived a restart for the journal; 13 comes with the place of the first record that fails. Refusals 1, 13.
@@ -201,13 +192,7 @@ pub extern "C" fn registers_journal_recover(
     journal: &mut [u8],
     survived: usize,
 ) -> JournalOutcome
-    ensures { λ r. ⌜ Answers (λ a. Recovered h (now (keys .entry)) (now (values .entry)) (now (journal .entry)) survived a (r .head) (now (journal .exit))) (r .answer) ⌝ }
+    ensures { λ r. ⌜ JournalReturns (λ a head. Recovered h (now (keys .entry)) (now (values .entry)) (now (journal .entry)) survived a head (now (journal .exit))) r ⌝ }
 {
-    let o = journal_store::recover::recover(h, keys, values, journal, survived);
-    let head = o.head;
-    let answer = o.answer;
-    JournalOutcome {
-        head,
-        answer: crate::done(answer),
-    }
+    ended(journal_store::recover::recover(h, keys, values, journal, survived))
 }

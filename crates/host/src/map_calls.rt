@@ -3,11 +3,38 @@ ghost use mathlib.Core.Path.{_≡_};
 ghost use Rattle.rules.specs.Calls.{Begin, Update, Abort};
 ghost use Rattle.map_store.specs.Shape.{emptyHead};
 ghost use Rattle.map_store.specs.Contracts.{Answered, Committed, readReply, lookupReply, ListedAt, Checkpointed};
-ghost use Rattle.host.specs.Answer.{Answers};
+ghost use Rattle.answer.specs.Reply.{ofBegun, ofDone};
+ghost use Rattle.host.specs.Answer.{answerOf, Answers, MapReturns};
 use crate::Answer;
 use crate::MapOutcome;
 use map_store::MapHead;
+use map_store::Outcome;
+use map_store::Started;
 use rules::Effect;
+
+// What begin returns.
+fn started(o: Started) -> MapOutcome
+    ensures { λ r. ⌜ (r .head ≡ o .head) × (r .answer ≡ answerOf (ofBegun (o .answer))) ⌝ }
+{
+    let head = o.head;
+    let answer = o.answer;
+    MapOutcome {
+        head,
+        answer: crate::begun(answer),
+    }
+}
+
+// What the other calls return that change the store.
+fn ended(o: Outcome) -> MapOutcome
+    ensures { λ r. ⌜ (r .head ≡ o .head) × (r .answer ≡ answerOf (ofDone (o .answer))) ⌝ }
+{
+    let head = o.head;
+    let answer = o.answer;
+    MapOutcome {
+        head,
+        answer: crate::done(answer),
+    }
+}
 
 // The head of an empty store.
 #[no_mangle]
@@ -26,15 +53,9 @@ pub extern "C" fn registers_map_begin(
     values: &[u32],
     t: u64,
 ) -> MapOutcome
-    ensures { λ r. ⌜ Answers (λ a. Answered (Begin t) h (now (keys .entry)) (now (times .entry)) (now (values .entry)) a (r .head)) (r .answer) ⌝ }
+    ensures { λ r. ⌜ MapReturns (λ a head. Answered (Begin t) h (now (keys .entry)) (now (times .entry)) (now (values .entry)) a head) r ⌝ }
 {
-    let o = map_store::begin::begin(h, keys, times, values, t);
-    let head = o.head;
-    let answer = o.answer;
-    MapOutcome {
-        head,
-        answer: crate::begun(answer),
-    }
+    started(map_store::begin::begin(h, keys, times, values, t))
 }
 
 // A running transaction gives key k the value v. Refusals 1, 2, 3, 8.
@@ -48,15 +69,9 @@ pub extern "C" fn registers_map_assign(
     k: u32,
     v: u32,
 ) -> MapOutcome
-    ensures { λ r. ⌜ Answers (λ a. Answered (Update n k (Effect.Assign v)) h (now (keys .entry)) (now (times .entry)) (now (values .entry)) a (r .head)) (r .answer) ⌝ }
+    ensures { λ r. ⌜ MapReturns (λ a head. Answered (Update n k (Effect.Assign v)) h (now (keys .entry)) (now (times .entry)) (now (values .entry)) a head) r ⌝ }
 {
-    let o = map_store::update::update(h, keys, times, values, n, k, Effect::Assign(v));
-    let head = o.head;
-    let answer = o.answer;
-    MapOutcome {
-        head,
-        answer: crate::done(answer),
-    }
+    ended(map_store::update::update(h, keys, times, values, n, k, Effect::Assign(v)))
 }
 
 // A running transaction adds d to key k. Refusals 1, 2, 3, 8.
@@ -70,15 +85,9 @@ pub extern "C" fn registers_map_add(
     k: u32,
     d: u32,
 ) -> MapOutcome
-    ensures { λ r. ⌜ Answers (λ a. Answered (Update n k (Effect.Add d)) h (now (keys .entry)) (now (times .entry)) (now (values .entry)) a (r .head)) (r .answer) ⌝ }
+    ensures { λ r. ⌜ MapReturns (λ a head. Answered (Update n k (Effect.Add d)) h (now (keys .entry)) (now (times .entry)) (now (values .entry)) a head) r ⌝ }
 {
-    let o = map_store::update::update(h, keys, times, values, n, k, Effect::Add(d));
-    let head = o.head;
-    let answer = o.answer;
-    MapOutcome {
-        head,
-        answer: crate::done(answer),
-    }
+    ended(map_store::update::update(h, keys, times, values, n, k, Effect::Add(d)))
 }
 
 // Ends a running transaction; its updates have no effect. Refusals 1, 2.
@@ -90,15 +99,9 @@ pub extern "C" fn registers_map_abort(
     values: &[u32],
     n: u32,
 ) -> MapOutcome
-    ensures { λ r. ⌜ Answers (λ a. Answered (Abort n) h (now (keys .entry)) (now (times .entry)) (now (values .entry)) a (r .head)) (r .answer) ⌝ }
+    ensures { λ r. ⌜ MapReturns (λ a head. Answered (Abort n) h (now (keys .entry)) (now (times .entry)) (now (values .entry)) a head) r ⌝ }
 {
-    let o = map_store::abort::abort(h, keys, times, values, n);
-    let head = o.head;
-    let answer = o.answer;
-    MapOutcome {
-        head,
-        answer: crate::done(answer),
-    }
+    ended(map_store::abort::abort(h, keys, times, values, n))
 }
 
 // Commits a running transaction at t, a time later than last. Refusals 1, 2, 10, 11, 12.
@@ -111,15 +114,9 @@ pub extern "C" fn registers_map_commit(
     n: u32,
     t: u64,
 ) -> MapOutcome
-    ensures { λ r. ⌜ Answers (λ a. Committed n t h (now (keys .entry)) (now (times .entry)) (now (values .entry)) a (r .head) (now (keys .exit)) (now (times .exit)) (now (values .exit))) (r .answer) ⌝ }
+    ensures { λ r. ⌜ MapReturns (λ a head. Committed n t h (now (keys .entry)) (now (times .entry)) (now (values .entry)) a head (now (keys .exit)) (now (times .exit)) (now (values .exit))) r ⌝ }
 {
-    let o = map_store::commit::commit(h, keys, times, values, n, t);
-    let head = o.head;
-    let answer = o.answer;
-    MapOutcome {
-        head,
-        answer: crate::done(answer),
-    }
+    ended(map_store::commit::commit(h, keys, times, values, n, t))
 }
 
 // The value of k as a running transaction sees it, or absent. Refusals 1, 2, 3.
@@ -177,13 +174,7 @@ pub extern "C" fn registers_map_checkpoint(
     values: &mut [u32],
     t: u64,
 ) -> MapOutcome
-    ensures { λ r. ⌜ Answers (λ a. Checkpointed t h (now (keys .entry)) (now (times .entry)) (now (values .entry)) a (r .head) (now (keys .exit)) (now (times .exit)) (now (values .exit))) (r .answer) ⌝ }
+    ensures { λ r. ⌜ MapReturns (λ a head. Checkpointed t h (now (keys .entry)) (now (times .entry)) (now (values .entry)) a head (now (keys .exit)) (now (times .exit)) (now (values .exit))) r ⌝ }
 {
-    let o = map_store::checkpoint::checkpoint(h, keys, times, values, t);
-    let head = o.head;
-    let answer = o.answer;
-    MapOutcome {
-        head,
-        answer: crate::done(answer),
-    }
+    ended(map_store::checkpoint::checkpoint(h, keys, times, values, t))
 }
