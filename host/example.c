@@ -1,6 +1,6 @@
-/* A host in C. Two registers are written and committed; then the power fails while a second transaction is being written, and
- * the store is recovered from the bytes that survived. It says what happens, and ends with status 1 and a line that says why
- * where an answer is not the one that must come. */
+/* A host in C. Two registers are written and committed; then the power fails while a second transaction is being
+ * written, and the store is recovered from the bytes that survived. It says what happens, and ends with status 1
+ * and a line that says why where an answer is not the one that must come. */
 #include "registers.h"
 #include <stdio.h>
 #include <stdlib.h>
@@ -69,8 +69,8 @@ static size_t lose_power(void)
     return survived;
 }
 
-/* After the restart: the head as it stands on the medium, the base and the bytes that survived. No checkpoint was taken, so the
- * head is that of the empty store; recovery ignores its used count. */
+/* After the restart: the head as it stands on the medium, the base and the bytes that survived. No checkpoint was
+ * taken, so the head is that of the empty store; recovery ignores its used count. */
 static void restart(size_t survived)
 {
     head = registers_journal_empty();
