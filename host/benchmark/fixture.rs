@@ -1,0 +1,121 @@
+//! The stores that calls are timed on, made by calls.
+
+use crate::library::{Answer, Head, MapHead};
+use crate::limits::{ACCEPTED, KEYS};
+use crate::stores::{JournalCalls, JournalLent, MapCalls, MapLent, Plain};
+
+/// How many records a transaction of begin, two updates and commit has.
+pub const TRANSACTION_RECORDS: usize = 4;
+/// How many versions it adds to a map.
+pub const TRANSACTION_VERSIONS: usize = 2;
+/// Transactions spread over the registers by a step that meets all of them before it comes round.
+const STEP: usize = 37;
+/// What a counter is raised by.
+pub const RAISE: u32 = 3;
+
+/// The register that is the i-th to be touched.
+pub fn register(i: usize, registers: usize) -> u32 {
+    (i * STEP % registers.max(1)) as u32 + 1
+}
+
+/// The value that a call was accepted with.
+fn taken(answer: Answer) -> u64 {
+    assert_eq!(answer.number, ACCEPTED, "a call that fills a store is refused: {answer:?}");
+    answer.value
+}
+
+/// A journal store, and the time of its last commit.
+#[derive(Clone, PartialEq, Eq, Debug)]
+pub struct JournalStore {
+    pub head: Head,
+    pub lent: JournalLent,
+    pub last: u64,
+}
+
+impl JournalStore {
+    pub fn empty() -> Self {
+        JournalStore { head: <Plain as JournalCalls>::empty(), lent: JournalLent::whole(), last: 0 }
+    }
+
+    /// So many registers in the base, and so many transactions of two updates in the journal.
+    pub fn filled(registers: usize, transactions: usize) -> Self {
+        let mut s = JournalStore::empty();
+        let keys: Vec<u32> = (1..=registers as u32).collect();
+        for part in keys.chunks(KEYS) {
+            let n = s.begun(s.last);
+            part.iter().for_each(|&k| s.assigned(n, k, k));
+            s.committed(n);
+        }
+        taken(<Plain as JournalCalls>::checkpoint(&mut s.head, &mut s.lent, s.last));
+        for i in 0..transactions {
+            let n = s.updated(s.last, register(2 * i, registers), register(2 * i + 1, registers));
+            s.committed(n);
+        }
+        s
+    }
+
+    /// A transaction begun with a snapshot; its number.
+    pub fn begun(&mut self, snapshot: u64) -> u32 {
+        taken(<Plain as JournalCalls>::begin(&mut self.head, &mut self.lent, snapshot)) as u32
+    }
+
+    pub fn assigned(&mut self, n: u32, k: u32, v: u32) {
+        taken(<Plain as JournalCalls>::assign(&mut self.head, &mut self.lent, n, k, v));
+    }
+
+    /// A transaction begun and two registers updated; its number.
+    pub fn updated(&mut self, snapshot: u64, k: u32, other: u32) -> u32 {
+        let n = self.begun(snapshot);
+        self.assigned(n, k, self.last as u32);
+        taken(<Plain as JournalCalls>::add(&mut self.head, &mut self.lent, n, other, RAISE));
+        n
+    }
+
+    pub fn committed(&mut self, n: u32) {
+        self.last += 1;
+        taken(<Plain as JournalCalls>::commit(&mut self.head, &mut self.lent, n, self.last));
+    }
+
+    pub fn aborted(&mut self, n: u32) {
+        taken(<Plain as JournalCalls>::abort(&mut self.head, &mut self.lent, n));
+    }
+}
+
+/// A map store; its last commit stands in the head.
+#[derive(Clone, PartialEq, Eq, Debug)]
+pub struct MapStore {
+    pub head: MapHead,
+    pub lent: MapLent,
+}
+
+impl MapStore {
+    pub fn empty() -> Self {
+        MapStore { head: <Plain as MapCalls>::empty(), lent: MapLent::whole() }
+    }
+
+    /// So many transactions of two updates, spread over the registers.
+    pub fn filled(registers: usize, transactions: usize) -> Self {
+        let mut s = MapStore::empty();
+        for i in 0..transactions {
+            let n = s.updated(s.head.last, register(2 * i, registers), register(2 * i + 1, registers));
+            let later = s.head.last + 1;
+            taken(<Plain as MapCalls>::commit(&mut s.head, &mut s.lent, n, later));
+        }
+        s
+    }
+
+    pub fn begun(&mut self, snapshot: u64) -> u32 {
+        taken(<Plain as MapCalls>::begin(&mut self.head, &mut self.lent, snapshot)) as u32
+    }
+
+    pub fn assigned(&mut self, n: u32, k: u32, v: u32) {
+        taken(<Plain as MapCalls>::assign(&mut self.head, &mut self.lent, n, k, v));
+    }
+
+    pub fn updated(&mut self, snapshot: u64, k: u32, other: u32) -> u32 {
+        let n = self.begun(snapshot);
+        self.assigned(n, k, self.head.last as u32);
+        taken(<Plain as MapCalls>::add(&mut self.head, &mut self.lent, n, other, RAISE));
+        n
+    }
+}

@@ -1,0 +1,200 @@
+//! The map store's calls, timed one by one.
+
+use crate::fixture::{register, MapStore, RAISE, TRANSACTION_VERSIONS};
+use crate::library::{Answer, MapHead};
+use crate::limits::LIST_ROWS;
+use crate::report::Pair;
+use crate::stores::{MapCalls, MapLent, Plain, Proved};
+use crate::timing;
+use std::hint::black_box;
+
+/// A call that is timed.
+#[derive(Clone, Copy, Debug)]
+enum Case {
+    Begin,
+    Assign,
+    Add,
+    Read,
+    Commit,
+    CommitOld,
+    Abort,
+    Lookup,
+    List,
+    Checkpoint,
+    CheckpointHalf,
+}
+
+/// The calls in the order of the tables, with their names there.
+const CASES: [(Case, &str); 11] = [
+    (Case::Begin, "begin"),
+    (Case::Assign, "update, assign"),
+    (Case::Add, "update, add"),
+    (Case::Read, "read"),
+    (Case::Commit, "commit"),
+    (Case::CommitOld, "commit, snapshot at low"),
+    (Case::Abort, "abort"),
+    (Case::Lookup, "lookup at last"),
+    (Case::List, "list at last"),
+    (Case::Checkpoint, "checkpoint at last"),
+    (Case::CheckpointHalf, "checkpoint halfway"),
+];
+
+pub fn names() -> Vec<&'static str> {
+    CASES.iter().map(|case| case.1).collect()
+}
+
+/// How many calls with different keys are compared before any is timed.
+const COMPARED: usize = 4;
+/// What an assign gives.
+const ASSIGNED: u32 = 7;
+/// How many heads one sample of a writing call works on: as many as fit beside the processor.
+const HEADS: usize = 16;
+/// How many copies of a store one sample of a checkpoint works on.
+const COPIES_EMPTY: usize = 64;
+const COPIES_FILLED: usize = 1;
+
+/// What a call answers and leaves, which must be the same for both.
+#[derive(PartialEq, Debug)]
+struct Outcome {
+    answers: Vec<Answer>,
+    head: Box<MapHead>,
+    lent: MapLent,
+}
+
+type Timed = (f64, Outcome);
+
+/// The answers to the first calls, each with the old head, and what the last of them leaves.
+fn outcome(s: &MapStore, call: &mut impl FnMut(&mut MapHead, &mut MapLent, usize) -> Answer) -> Outcome {
+    let mut lent = s.lent.clone();
+    let mut head = Box::new(s.head);
+    let mut answers = Vec::new();
+    for i in 0..COMPARED {
+        *head = s.head;
+        answers.push(call(&mut head, &mut lent, i));
+    }
+    Outcome { answers, head, lent }
+}
+
+/// A call that changes nothing.
+fn reading(s: &MapStore, mut call: impl FnMut(&mut MapHead, &mut MapLent, usize) -> Answer) -> Timed {
+    let outcome = outcome(s, &mut call);
+    let (mut head, mut lent) = (s.head, s.lent.clone());
+    let ns = timing::repeated(|i| {
+        black_box(call(black_box(&mut head), black_box(&mut lent), i));
+    });
+    (ns, outcome)
+}
+
+/// A call that changes the head, and adds behind the used versions: made on one head after the other, which are made
+/// good before.
+fn on_heads(s: &MapStore, mut call: impl FnMut(&mut MapHead, &mut MapLent, usize) -> Answer) -> Timed {
+    let outcome = outcome(s, &mut call);
+    let mut lent = s.lent.clone();
+    let mut heads = vec![s.head; HEADS];
+    let mut made = 0;
+    let restore = |head: &mut MapHead| *head = s.head;
+    let ns = timing::restored(&mut heads, restore, |head| {
+        black_box(call(black_box(head), black_box(&mut lent), made));
+        made += 1;
+    });
+    (ns, outcome)
+}
+
+/// A checkpoint: made on a copy that is made good before.
+fn on_copies(s: &MapStore, mut call: impl FnMut(&mut MapHead, &mut MapLent) -> Answer) -> Timed {
+    let mut first = s.clone();
+    let answers = vec![call(&mut first.head, &mut first.lent)];
+    let outcome = Outcome { answers, head: Box::new(first.head), lent: first.lent };
+    let used = s.head.used;
+    let mut copies = vec![s.clone(); if used == 0 { COPIES_EMPTY } else { COPIES_FILLED }];
+    let restore = |copy: &mut MapStore| {
+        copy.head = s.head;
+        copy.lent.keys[..used].copy_from_slice(&s.lent.keys[..used]);
+        copy.lent.times[..used].copy_from_slice(&s.lent.times[..used]);
+        copy.lent.values[..used].copy_from_slice(&s.lent.values[..used]);
+    };
+    let ns = timing::restored(&mut copies, restore, |copy| {
+        black_box(call(black_box(&mut copy.head), black_box(&mut copy.lent)));
+    });
+    (ns, outcome)
+}
+
+/// A list, whose rows are compared as if they were answers.
+fn listing<C: MapCalls>(s: &MapStore) -> Timed {
+    let (mut keys, mut values) = (vec![0; LIST_ROWS], vec![0; LIST_ROWS]);
+    let (ns, mut outcome) = reading(s, |h, l, _| C::list(h, l, s.head.last, &mut keys, &mut values));
+    let rows = keys.iter().zip(&values);
+    outcome.answers.extend(rows.map(|(&key, &value)| Answer { number: 0, present: key, value: u64::from(value) }));
+    (ns, outcome)
+}
+
+/// The stores of one size: with as many versions as said, and with one transaction less, so that one can commit.
+struct Level {
+    registers: usize,
+    whole: MapStore,
+    short: MapStore,
+}
+
+impl Level {
+    fn new(registers: usize, versions: usize) -> Self {
+        let transactions = versions / TRANSACTION_VERSIONS;
+        Level {
+            registers,
+            whole: MapStore::filled(registers, transactions),
+            short: MapStore::filled(registers, transactions.saturating_sub(1)),
+        }
+    }
+
+    /// The store that a call is made on, and the number of the transaction that runs there.
+    fn ready(&self, case: Case) -> (MapStore, u32) {
+        let mut s = self.short.clone();
+        let (low, last, fresh) = (s.head.low, s.head.last, self.registers as u32 + 1);
+        let n = match case {
+            Case::Begin => 0,
+            Case::Assign => s.begun(last),
+            Case::Add | Case::Read => {
+                let n = s.begun(last);
+                s.assigned(n, 1, ASSIGNED);
+                n
+            }
+            Case::Commit | Case::Abort => s.updated(last, 1, 2),
+            // Two registers that nobody has written, so that an old snapshot meets no conflict.
+            Case::CommitOld => s.updated(low, fresh, fresh + 1),
+            _ => return (self.whole.clone(), 0),
+        };
+        (s, n)
+    }
+
+    fn time<C: MapCalls>(&self, case: Case) -> Timed {
+        let (s, n) = self.ready(case);
+        let key = |i| register(i, self.registers);
+        let last = s.head.last;
+        match case {
+            Case::Begin => on_heads(&s, |h, l, _| C::begin(h, l, last)),
+            Case::Assign => on_heads(&s, |h, l, i| C::assign(h, l, n, key(i), ASSIGNED)),
+            Case::Add => on_heads(&s, |h, l, i| C::add(h, l, n, key(i), RAISE)),
+            Case::Read => reading(&s, |h, l, i| C::read(h, l, n, key(i))),
+            Case::Commit | Case::CommitOld => on_heads(&s, |h, l, _| C::commit(h, l, n, last + 1)),
+            Case::Abort => on_heads(&s, |h, l, _| C::abort(h, l, n)),
+            Case::Lookup => reading(&s, |h, l, i| C::lookup(h, l, key(i), last)),
+            Case::List => listing::<C>(&s),
+            Case::Checkpoint => on_copies(&s, |h, l| C::checkpoint(h, l, last)),
+            Case::CheckpointHalf => on_copies(&s, |h, l| C::checkpoint(h, l, last / 2)),
+        }
+    }
+}
+
+/// The times of both, once they answered and left the same.
+fn pair(proved: Timed, plain: Timed, what: &str) -> Pair {
+    assert_eq!(proved.1, plain.1, "library and plain Rust differ: {what}");
+    Pair { proved: proved.0, plain: plain.0 }
+}
+
+/// The times of all calls on a store with so many versions of so many registers.
+pub fn times(registers: usize, versions: usize) -> Vec<Pair> {
+    let level = Level::new(registers, versions);
+    let one = |&(case, name): &(Case, &str)| pair(level.time::<Proved>(case), level.time::<Plain>(case), name);
+    let round = || CASES.iter().map(one).collect::<Vec<Pair>>();
+    let better = |a: Vec<Pair>, b: Vec<Pair>| a.into_iter().zip(b).map(|(a, b)| a.min(b)).collect();
+    (1..timing::ROUNDS).map(|_| round()).fold(round(), better)
+}
