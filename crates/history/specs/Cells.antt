@@ -72,7 +72,8 @@ lost x survived = x .head .journal .used - survived / recordBytes
 
 -- The stores that calls reach, with the deeds that were accepted and stand, the newest first, and how many records were written since the latest
 -- checkpoint, recovery or start. Whatever is lent: where it has the shape that the call asks for, it has the store's own cells. `room` says how many
--- journal bytes may be lent to a call that writes a record. The history is told by the answers alone: a deed counts if its answer is 0.
+-- journal bytes may be lent to a call that writes a record. Numbers are those of section 2 and a journal holds bytes, as a host's types say
+-- (SizedCall, Bytes). The history is told by the answers alone: a deed counts if its answer is 0.
 pub data Reached (room : ℕ → Type 0) : List Deed → ℕ → Cells → Type 0 where
   start : Reached room [] 0 emptyCells
   called : {ds : List Deed} {since : ℕ} {x : Cells} → Reached room ds since x → (c : Call) → SizedCall c → (keys values journal : List ℕ)
