@@ -1,5 +1,6 @@
 pub mod Kinds
 pub mod Walks
+pub mod Ends
 pub mod Some
 pub mod Meets
 pub mod Gathered

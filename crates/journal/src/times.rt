@@ -1,6 +1,6 @@
 // Rule 3.3: last, and the next number.
 ghost use mathlib.Core.Path.{_≡_};
-ghost use Prim.Native.Nat.{_*_, _≤_};
+ghost use Prim.Native.Nat.{_+_, _*_, _≤_, max};
 ghost use lib.ListN.{length};
 ghost use mathlib.Core.Bool.{_&&_};
 ghost use lib.Dec.{leb, ltb};
@@ -63,7 +63,18 @@ pub fn is_future(journal: &[u8], used: usize, low: u64, t: u64) -> bool
     low < t
 }
 
-// One record more: one more than a begin's number counts. In 64 bits, so that the greatest number has a successor.
+// The greater of best and one more than a number. In 64 bits, so that the greatest number has a successor.
+pub(crate) fn above(best: u64, n: u32) -> u64
+    ensures { λ v. ⌜ v ≡ max best (n + 1) ⌝ }
+{
+    let over = n as u64 + 1;
+    if best < over {
+        return over;
+    }
+    best
+}
+
+// One record more: one more than a begin's number counts.
 fn above_step(r: Record, best: u64) -> u64
     requires { ⌜ best ≤ 4294967296 ⌝ }
     ensures { λ v. ⌜ Above r best v ⌝ }
@@ -71,11 +82,7 @@ fn above_step(r: Record, best: u64) -> u64
     if r.kind != Record::BEGIN {
         return best;
     }
-    let above = r.transaction as u64 + 1;
-    if best < above {
-        return above;
-    }
-    best
+    above(best, r.transaction)
 }
 
 // The greater of floor and one more than the highest number in a begin, but never above 4,294,967,295.

@@ -1,15 +1,17 @@
 // Rule 3.2: which transactions run, and their snapshots.
 ghost use mathlib.Core.Path.{_≡_};
 ghost use mathlib.Core.Bool.{not, _&&_};
-ghost use Prim.Native.Nat.{_*_, _≤_};
+ghost use Prim.Native.Nat.{_-_, _*_, _≤_};
 ghost use lib.ListN.{length};
 ghost use Rattle.rules.specs.Kinds.{recordBytes};
 ghost use Rattle.rules.specs.Transactions.{of, opens, runs as runsIn};
 ghost use Rattle.rules.specs.Checkpoints.{heldBy, held as heldIn};
 ghost use Rattle.record.specs.Bytes.{newest};
 ghost use Rattle.journal.specs.Walks.{traced, traceOf, endedBy, Counted};
+ghost use Rattle.journal.specs.Ends.{ends as endsIn, endedFrom, top as topIn};
 ghost use Rattle.journal.specs.CompactColumns.{RunningOf};
 use crate::Journal;
+use crate::times;
 use rules::Record;
 
 // What the records say of one transaction.
@@ -92,20 +94,55 @@ pub fn runs(journal: &[u8], used: usize, n: u32) -> bool
     trace.runs()
 }
 
-// Whether the record at a place is the first begin of a transaction that runs.
-fn opens_at(journal: &[u8], used: usize, i: usize, r: Record) -> bool
-    requires { ⌜ (used * recordBytes ≤ length (now journal)) × (i ≤ used) ⌝ }
+// Whether a record is a commit or an abort of a transaction.
+fn ends(r: Record, n: u32) -> bool
+    ensures { λ b. ⌜ b ≡ endsIn n r ⌝ }
+{
+    if r.transaction != n {
+        return false;
+    }
+    if r.kind == Record::COMMIT {
+        return true;
+    }
+    r.kind == Record::ABORT
+}
+
+// Whether a record from one place up to another ends a transaction. The walk goes up and stops at the first: in a journal that calls wrote, the end
+// of a transaction stands a few records behind its begin.
+fn is_ended(journal: &[u8], from: usize, to: usize, n: u32) -> bool
+    requires { ⌜ (to * recordBytes ≤ length (now journal)) × (from ≤ to) ⌝ }
+    ensures { λ b. ⌜ b ≡ endedFrom n (now (journal .entry)) from (to - from) ⌝ }
+{
+    let mut i = from;
+    while i < to {
+        if ends(record::read(journal, i), n) {
+            return true;
+        }
+        i += 1;
+    }
+    false
+}
+
+// Whether the record at a place is the first begin of a transaction that runs. Every number that stands before it lies below `top`, so that a
+// number from `top` on has no record there. The numbers that calls give rise: only a damaged journal has the records before a begin walked.
+fn opens_at(journal: &[u8], used: usize, i: usize, top: u64, r: Record) -> bool
+    requires { ⌜ (used * recordBytes ≤ length (now journal)) × (i ≤ used) × (top ≡ topIn (newest i (now journal))) ⌝ }
     ensures { λ b. ⌜ b ≡ opens (newest used (now (journal .entry))) r (newest i (now (journal .entry))) ⌝ }
 {
     if r.kind != Record::BEGIN {
         return false;
     }
+    if is_ended(journal, i, used, r.transaction) {
+        return false;
+    }
+    if top <= r.transaction as u64 {
+        return true;
+    }
     let before = follow(journal, i, r.transaction);
     if before.begun {
         return false;
     }
-    let all = follow(journal, used, r.transaction);
-    !all.ended
+    !before.ended
 }
 
 // The running transactions, into a column; how many they are.
@@ -114,13 +151,15 @@ pub(crate) fn running_numbers(journal: &[u8], used: usize, numbers: &mut [u32]) 
     ensures { λ r. ⌜ RunningOf (newest used (now (journal .entry))) used r (now (numbers .exit)) ⌝ }
 {
     let mut count = 0;
+    let mut top = 0;
     let mut i = 0;
     while i < used {
         let r = record::read(journal, i);
-        if opens_at(journal, used, i, r) {
+        if opens_at(journal, used, i, top, r) {
             numbers[count] = r.transaction;
             count += 1;
         }
+        top = times::above(top, r.transaction);
         i += 1;
     }
     count
@@ -135,12 +174,16 @@ pub fn count_running(journal: &[u8], used: usize) -> usize
     running_numbers(journal, used, &mut numbers)
 }
 
-// Whether a record begins a running transaction whose snapshot lies below a time.
-fn is_held(journal: &[u8], used: usize, t: u64, r: Record) -> bool
-    requires { ⌜ used * recordBytes ≤ length (now journal) ⌝ }
+// Whether the record at a place begins a running transaction whose snapshot lies below a time. The whole journal is walked only where no end stands
+// behind it.
+fn is_held(journal: &[u8], used: usize, i: usize, t: u64, r: Record) -> bool
+    requires { ⌜ (used * recordBytes ≤ length (now journal)) × (i ≤ used) ⌝ }
     ensures { λ b. ⌜ b ≡ heldBy t (newest used (now (journal .entry))) r ⌝ }
 {
     if r.kind != Record::BEGIN {
+        return false;
+    }
+    if is_ended(journal, i, used, r.transaction) {
         return false;
     }
     let trace = follow(journal, used, r.transaction);
@@ -160,7 +203,7 @@ pub fn held(journal: &[u8], used: usize, t: u64) -> bool
     let mut found = false;
     let mut i = 0;
     while i < used {
-        if is_held(journal, used, t, record::read(journal, i)) {
+        if is_held(journal, used, i, t, record::read(journal, i)) {
             found = true;
         }
         i += 1;

@@ -1,11 +1,13 @@
 -- `journal::transactions::running_numbers` meets its contract. The loop's invariant: the column holds the running transactions that the records
--- passed begin. Assumes nothing.
+-- passed begin, and top is one more than the highest number in them. Assumes nothing.
 use mathlib.Core.Path.{_≡_, refl, sym, _∙_}
 use mathlib.Core.Logic.{⊎-elim}
-use Prim.Native.Nat.{_≤_, _-_, _+_}
+use Prim.Native.Nat.{ℕ, _≤_, _-_, _+_, max}
 use lib.ListN.{length, length-set}
+use Rattle.rules.specs.declared.Record.{Record}
 use Rattle.record.specs.Bytes.{newest}
-use Rattle.record.specs.Walks.{onward}
+use Rattle.record.specs.Walks.{onward, turn}
+use Rattle.journal.specs.Ends.{top}
 use Rattle.journal.specs.CompactColumns.{Opened, open-more, open-same, opened-all}
 use borrow.Author.Needs.{needs}
 use native.Mathlib.Omega.{arith}
@@ -14,13 +16,14 @@ use Rattle.journal.proofs.transactions.running_numbers.Statement.{state
 use Rattle.journal.proofs.transactions.running_numbers.Tie as tie
 
 abbrev Inv-loop : tie.InvT-loop
-Inv-loop journal used numbers₀ count₀ i₀ numbers count i = (i ≤ used) × (length numbers ≡ length numbers₀) × Opened (newest used journal) (newest i journal) i count numbers
+Inv-loop journal used numbers₀ count₀ top₀ i₀ numbers count most i =
+    (i ≤ used) × (length numbers ≡ length numbers₀) × (most ≡ top (newest i journal)) × Opened (newest used journal) (newest i journal) i count numbers
 
 abbrev μ-loop : tie.MeasureT-loop
-μ-loop journal used numbers₀ count₀ i₀ numbers count i = used - i
+μ-loop journal used numbers₀ count₀ top₀ i₀ numbers count most i = used - i
 
 loop-holds : tie.Need-loop-holds Inv-loop μ-loop
-loop-holds c = (omega arith, refl, record { few = omega arith; many = refl; held = λ m. refl })
+loop-holds c = (omega arith, refl, refl, record { few = omega arith; many = refl; held = λ m. refl })
 
 read-requires : tie.Need-read-requires Inv-loop μ-loop
 read-requires c κs = search needs
@@ -37,6 +40,9 @@ slice-write-numbers c = search needs
 add-count : tie.Need-add-count Inv-loop μ-loop
 add-count c = search needs
 
+above-requires : tie.Need-above-requires Inv-loop μ-loop
+above-requires c κs = search needs
+
 add-i : tie.Need-add-i Inv-loop μ-loop
 add-i c = search needs
 
@@ -45,22 +51,25 @@ loop-less c = search needs
 
 loop-again : tie.Need-loop-again Inv-loop μ-loop
 loop-again c =
-    let t = c .before in
+    let n = c .before in
+    let t = n .before in
     let l = t .before .before .before .loop in
-    let a = t .before .before .before .before .before .before .args in
+    let s = t .before .before .before .before .before .before in
+    let a = s .args in
     let r = t .before .read in
     let j = now (a .journal) in (
       omega arith,
-      ⊎-elim (λ w. rw (w .1) (simp length-set (l .inv .1))) (λ w. rw (w .1) (l .inv .1)) (c .if1 .came),
-      onward (λ rs. Opened (newest (a .used) j) rs (l .i + 1) (c .if1 .count) (c .if1 .numbers)) j (l .i) _ (r .ensures)
+      ⊎-elim (λ w. rw (w .1) (simp length-set (l .inv .1))) (λ w. rw (w .1) (l .inv .1)) (n .if1 .came),
+      turn top (λ (x : Record) (m : ℕ). max m (x .transaction + 1)) (λ x rs. refl) j (l .i) _ _ _ (c .above .ensures) (r .ensures) (l .inv .2),
+      onward (λ rs. Opened (newest (a .used) j) rs (l .i + 1) (n .if1 .count) (n .if1 .numbers)) j (l .i) _ (r .ensures)
           (⊎-elim
           (λ w.
-          open-more (newest (a .used) j) (l .i) (l .count) (newest (l .i) j) _ (l .inv .2) (r .result) _ _ (omega arith)
+          open-more (newest (a .used) j) (l .i) (l .count) (newest (l .i) j) _ (l .inv .3) (r .result) _ _ (omega (arith, s .pre .1))
           (sym (t .opens-at .ensures) ∙ w .0 .taken) (w .2) (w .1))
           (λ w.
-          open-same (newest (a .used) j) (l .i) (l .count) (newest (l .i) j) _ (l .inv .2) (r .result) _ _
+          open-same (newest (a .used) j) (l .i) (l .count) (newest (l .i) j) _ (l .inv .3) (r .result) _ _
           (sym (t .opens-at .ensures) ∙ w .0 .left) (w .2) (w .1))
-          (c .if1 .came)),
+          (n .if1 .came)),
     )
 
 same-length : tie.Need-same-length Inv-loop μ-loop
@@ -71,7 +80,7 @@ returns c =
     let l = c .before .loop in
     let a = c .before .before .before .before .args in
     let e : l .i ≡ a .used = omega arith in
-    opened-all (newest (a .used) (now (a .journal))) (a .used) _ _ (rw e at (l .inv .2))
+    opened-all (newest (a .used) (now (a .journal))) (a .used) _ _ (rw e at (l .inv .3))
 
 pub running-numbers-spec : {M : Type 1} → statement M
 running-numbers-spec =
@@ -85,6 +94,7 @@ running-numbers-spec =
     mul-numbers
     slice-write-numbers
     add-count
+    above-requires
     add-i
     loop-less
     loop-again
