@@ -23,6 +23,7 @@ use Rattle.slot.specs.Places.{Place, free, taken, placeOf}
 use Rattle.journal_store.specs.declared.Head.{Head}
 use Rattle.journal_store.specs.Shape.{roomOf}
 use Rattle.journal_store.specs.Write.{Wrote}
+use Rattle.journal_store.specs.Read.{readDecided, lookupDecided, shapedReply}
 use Rattle.journal_store.specs.List.{ListedBy}
 use Rattle.map_store.specs.declared.MapHead.{MapHead}
 use Rattle.map_store.specs.Meaning.{MapStore, mapRefusal, mapAnswer, abortRefusal, placeRefusal}
@@ -38,7 +39,7 @@ use Rattle.history.specs.MapMeanings.{map-looks-up, map-lists-the-histor
 use Rattle.history.specs.Cells.{Cells, meaningOf, end, Lent, Shows, Reached}
 use Rattle.history.specs.Meant.{meant}
 use Rattle.history.specs.Lent.{courseOf, told-same, shows-same, shows-alike, tie}
-use Rattle.history.specs.Demands.{room-same, in-time, low-is, last-is, running-is, refused-is, list-answers, calls-answer}
+use Rattle.history.specs.Demands.{room-same, in-time, low-is, last-is, running-is, refused-is, list-answers, looks-up-the-history, reads-the-history, calls-answer}
 use Rattle.history.specs.MapCells.{MapCells, mapMeaningOf, MapLent, Given}
 use Rattle.history.specs.MapMeant.{MapMeant, map-meant, map-lent-passes, map-lent-meaning}
 use Rattle.versions.specs.Versions as versions
@@ -189,6 +190,15 @@ module _ {room : ℕ → Type 0} {ds : List Deed} {since : ℕ} {x : Cells} (r :
         let v = passed (eqb k 0) 3 0 (omega arith) (y .1) in
         let i = eqb-false k 0 (v .0) in
         ap (map.readIn n k) means ∙ read-of n k (omega arith) (not-false (among n (numbers (history ds .runners))) (y .0)))
+
+    -- The two stores look up and read the same.
+    pub stores-look-up-alike : (keys values journal : List ℕ) → Lent x (end x) keys values journal → (k t : ℕ)
+        → shapedReply (x .head) keys values journal (lookupDecided k t) ≡ lookupReply k t (m .head) ks ts vs
+    stores-look-up-alike keys values journal j k t = looks-up-the-history r keys values journal j k t ∙ sym (map-looks-up-the-history k t)
+
+    pub stores-read-alike : (keys values journal : List ℕ) → Lent x (end x) keys values journal → (n k : ℕ)
+        → shapedReply (x .head) keys values journal (readDecided n k) ≡ readReply n k (m .head) ks ts vs
+    stores-read-alike keys values journal j n k = reads-the-history r keys values journal j n k ∙ sym (map-reads-the-history n k)
 
     -- CALLS. Call by call the two stores answer the same number and the same transaction number, unless one of them has no room.
     pub map-answers : (c : Call) → contract.number c (m .head) ks ts vs ≢ 12 → contract.number c (m .head) ks ts vs ≡ refusalIn (Did c) (history ds)
