@@ -1,19 +1,18 @@
 -- What the rules have tested in a deed that they do not refuse. Assumes nothing.
-use mathlib.Core.Path.{_≡_, refl}
-use mathlib.Core.Bool.{Bool, true, false, cond, not}
+use mathlib.Core.Path.{_≡_}
+use mathlib.Core.Bool.{true, false, cond, not}
 use Prim.Native.Nat.{ℕ, _<_, _≤_}
 use native.Mathlib.Omega.{arith}
 use lib.Dec.{eqb, leb, ltb}
 use lib.ListN.{length}
-use borrow.Author.Tests.{eqb-true, eqb-false, leb-true, leb-false, ltb-false, not-false}
+use borrow.Author.Tests.{leb-false, ltb-false, not-false}
 use Rattle.rules.specs.declared.Effect.{Effect}
 use Rattle.rules.specs.Transactions.{runs, running}
 use Rattle.rules.specs.Conflicts.{conflict}
 use Rattle.rules.specs.Checkpoints.{held}
 use Rattle.rules.specs.Recovery.{mayWrite}
-use Rattle.rules.specs.Calls.{Store, lastOf, nextOf, Begin, Update, Abort, Commit, timeRefusal, refusal, checkpointRefusal, withRoom}
+use Rattle.rules.specs.Calls.{Store, lastOf, nextOf, Begin, Update, Abort, Commit, timeRefusal, refusal, checkpointRefusal}
 use Rattle.rules.specs.Passed.{passed}
-use Rattle.rules.specs.Bools.{split}
 use Rattle.history.specs.History.{Deed, Did, Checkpointed}
 use Rattle.history.specs.Judged.{pos}
 

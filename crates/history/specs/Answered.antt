@@ -11,19 +11,18 @@ use Rattle.rules.specs.Transactions.{of, runs, snapshot, running}
 use Rattle.rules.specs.Values.{Row, valueAt, readIn}
 use Rattle.rules.specs.Lists.{among, listAt}
 use Rattle.rules.specs.Recovery.{survivors}
-use Rattle.rules.specs.Calls.{Store, lastOf, nextOf, Abort, checkpointed}
+use Rattle.rules.specs.Calls.{Store, lastOf, nextOf, Abort}
 use Rattle.rules.specs.Bools.{split}
 use Rattle.rules.specs.Listing.{list-lists, lists-unique}
-use Rattle.history.specs.History.{Runner, Deed, Did, Checkpointed, numbers, history, aborting, restarted, valueIn, reads, listIn}
+use Rattle.history.specs.History.{Runner, Deed, Did, numbers, history, aborting, restarted, valueIn, reads, listIn}
 use Rattle.history.specs.Refusals.{lastIn}
 use Rattle.history.specs.Sequences.{Course, lose, recovered}
 use Rattle.history.specs.Listed.{history-lists}
 use Rattle.history.specs.RefusedAlike.{snapshot-low, begun-of}
 use Rattle.history.specs.Recovered.{survivors-none}
 use Rattle.history.specs.Replayed.{whole}
-use Rattle.history.specs.Allowed.{refused, Allowed, may-checkpoint, allowed}
 use Rattle.history.specs.Told.{value-told, last-told, tells, read-told}
-use Rattle.history.specs.Tied.{Tied, tied-restart, now, good-now, low-now, next-above, tied-checkpoint}
+use Rattle.history.specs.Tied.{Tied, tied-restart, now, good-now, low-now, next-above}
 use Rattle.history.specs.Room.{running-none}
 
 -- what a store lists, what it has for a key, and what a transaction reads in it
@@ -71,32 +70,6 @@ module _ (y : Course) (h : Tied y) where
       let l : y .store .low ≤ snapshot n b = rw o at (snapshot-low (good-now y h) n (begun-of n (y .store .records) u)) in
       rw (o, now y h .values k (snapshot n b) i l) (read-told (h .lawful) n k v)
 
--- a checkpoint
-module _ (y : Course) (h : Tied y) (T : ℕ) (ok : refused (Checkpointed T) (y .store) ≡ 0) where
-  low-raised : y .store .low ≤ T
-  low-raised = raised-to (allowed (y .store) (Checkpointed T) ok)
-    where
-      raised-to : {t : ℕ} → Allowed (y .store) (Checkpointed t) → y .store .low ≤ t
-      raised-to (may-checkpoint t l m n) = l
-
-  abbrev later : Course
-  later = record { store = checkpointed T (y .store); deeds = Checkpointed T ∷ y .deeds; since = 0 }
-
-  tied-later : Tied later
-  tied-later = tied-checkpoint y h (allowed (y .store) (Checkpointed T) ok) ok
-
-  pub checkpointed-lists : (t : ℕ) → T ≤ t → lists (checkpointed T (y .store)) t ≡ lists (y .store) t
-  checkpointed-lists t l = list-same later tied-later t l ∙ sym (list-same y h t (omega (arith, low-raised)))
-
-  pub checkpointed-looks-up : (t k : ℕ) → 1 ≤ k → T ≤ t → looksUp (checkpointed T (y .store)) t k ≡ looksUp (y .store) t k
-  checkpointed-looks-up t k i l = value-same later tied-later t k i l ∙ sym (value-same y h t k i (omega (arith, low-raised)))
-
-  pub checkpointed-runs : (n : ℕ) → runs n (checkpointed T (y .store) .records) ≡ runs n (y .store .records)
-  checkpointed-runs n = now later tied-later .run n ∙ sym (now y h .run n)
-
-  pub checkpointed-reads : (n k : ℕ) → runs n (y .store .records) ≡ true → 1 ≤ k → readsIn (checkpointed T (y .store)) n k ≡ readsIn (y .store) n k
-  checkpointed-reads n k u i = read-same later tied-later n k (checkpointed-runs n ∙ u) i ∙ sym (read-same y h n k u i)
-
 -- aborts change no committed transaction, and not low
 aborting-commitments : (ns : List ℕ) (ds : List Deed) → history (aborting ns ds) .commitments ≡ history ds .commitments
 aborting-commitments [] ds = refl
@@ -122,12 +95,6 @@ restarted-commitments x ds = aborting-commitments (numbers (history (drop x ds) 
 
 -- a restart
 module _ (y : Course) (h : Tied y) (x : ℕ) (l : x ≤ y .since) where
-  pub restarted-lists : (t : ℕ) → y .store .low ≤ t
-      → lists (recovered (lose x (y .store))) t ≡ listIn (history (drop x (y .deeds)) .commitments) t
-  restarted-lists t m =
-      list-same (record { store = recovered (lose x (y .store)); deeds = restarted x (y .deeds); since = 0 }) (tied-restart y h x l) t m
-      ∙ rw (restarted-commitments x (y .deeds))
-
   pub restarted-runners : history (restarted x (y .deeds)) .runners ≡ []
   restarted-runners =
       no-runners (history (restarted x (y .deeds)) .runners)

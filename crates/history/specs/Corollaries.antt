@@ -1,7 +1,7 @@
 -- What shuts out trivial stores: an assign that was committed is looked up and listed, whatever came before it; and a refused call changes no cell,
 -- so that all answers stay as they were. Assumes nothing.
 use mathlib.Core.Path.{_≡_, refl, ap, sym, _∙_}
-use mathlib.Core.Bool.{true, cond, not, false≢true}
+use mathlib.Core.Bool.{true, not, false≢true}
 use mathlib.Core.List.{List, [], _∷_}
 use mathlib.Core.Logic.{_≢_}
 use Prim.Native.Nat.{ℕ, _≤_, max}
@@ -9,15 +9,14 @@ use native.Mathlib.Omega.{arith}
 use lib.Dec.{eqb, leb, ltb}
 use lib.ListN.{length}
 use borrow.Author.Tests.{not-false, eqb-false, eq-eqb, ne-eqb, le-leb, le-ltb, ltb-false, leb-false}
-use Rattle.rules.specs.declared.Value.{Value}
-use Rattle.rules.specs.declared.Value.the-variants.{Absent, Present}
+use Rattle.rules.specs.declared.Value.the-variants.{Present}
 use Rattle.rules.specs.declared.Effect.the-variants.{Assign}
 use Rattle.rules.specs.Bools.{split}
 use Rattle.rules.specs.Values.{rowValue}
 use Rattle.rules.specs.Lists.{among}
 use Rattle.rules.specs.Passed.{passed}
 use Rattle.rules.specs.Calls.{Call, Update, Commit}
-use Rattle.answer.specs.Reply.{Reply, accepted, told, after}
+use Rattle.answer.specs.Reply.{Reply, accepted, after}
 use Rattle.journal_store.specs.declared.Head.{Head}
 use Rattle.journal_store.specs.Write.{number, Wrote}
 use Rattle.journal_store.specs.Read.{lookupDecided, shapedReply}

@@ -1,39 +1,32 @@
 -- The demands on the journal store, over any sequence of calls, checkpoints and restarts from an empty store, with whatever room is lent to each,
 -- refused calls included (Cells). The answers are those that the calls' contracts give on the lent cells; what they are held to is the history of
 -- the accepted calls, as if no checkpoint had been taken (History, Refusals). Assumes nothing.
-use mathlib.Core.Path.{_≡_, refl, ap, sym, _∙_, subst}
-use mathlib.Core.Bool.{Bool, true, false, cond, not}
-use mathlib.Core.List.{List, [], _∷_, _++_}
-use mathlib.Core.Logic.{_≢_}
-use Prim.Native.Nat.{ℕ, _+_, _-_, _*_, _/_, _≤_, min}
+use mathlib.Core.Path.{_≡_, refl, ap, sym, _∙_}
+use mathlib.Core.Bool.{Bool, cond, not}
+use mathlib.Core.List.{List, []}
+use Prim.Native.Nat.{ℕ, _-_, _≤_}
 use native.Mathlib.Omega.{arith}
 use lib.Dec.{eqb, leb, ltb}
-use lib.ListN.{length, drop}
-use borrow.Author.Tests.{not-false, eqb-true, eqb-false, eq-eqb, ne-eqb, le-leb, le-ltb, ltb-false}
-use Rattle.rules.specs.declared.Value.{Value}
-use Rattle.rules.specs.declared.Value.the-variants.{Absent, Present}
-use Rattle.rules.specs.declared.Effect.the-variants.{Assign}
+use lib.ListN.{length}
+use borrow.Author.Tests.{not-false, eqb-true, eqb-false, eq-eqb, le-leb, le-ltb, ltb-false}
+use Rattle.rules.specs.declared.Value.the-variants.{Present}
 use Rattle.rules.specs.Bools.{split}
 use Rattle.rules.specs.Passed.{passed, fitting}
-use Rattle.rules.specs.Kinds.{recordBytes}
 use Rattle.rules.specs.Transactions.{runs, running}
-use Rattle.rules.specs.Values.{Row, valueAt, readIn}
-use Rattle.rules.specs.Lists.{among, rowKeys}
-use Rattle.rules.specs.Columns.{rowValues}
+use Rattle.rules.specs.Listing.{Lists}
 use Rattle.rules.specs.Running.{running-runs}
-use Rattle.rules.specs.Calls.{Store, lastOf, nextOf, Call, Begin, Update, Abort, Commit, gives, refusal, readRefusal, lookupRefusal, listRefusal, checkpointRefusal, need, withRoom, answer, listAnswer, checkpointAnswer}
-use Rattle.record.specs.Bytes.{Bytes}
+use Rattle.rules.specs.Calls.{Store, lastOf, Call, Begin, Update, Abort, Commit, gives, readRefusal, lookupRefusal, listRefusal, checkpointRefusal, need, withRoom, answer, listAnswer, checkpointAnswer}
 use Rattle.record.specs.Laws.{length-newest}
-use Rattle.answer.specs.Reply.{Reply, accepted, told, after}
+use Rattle.answer.specs.Reply.{Reply, accepted, told}
 use Rattle.journal_store.specs.declared.Head.{Head}
 use Rattle.journal_store.specs.Shape.{roomOf, rowRoom, meaning}
 use Rattle.journal_store.specs.Write.{number, Wrote}
 use Rattle.journal_store.specs.Read.{readDecided, lookupDecided, shapedReply, reply-good}
 use Rattle.journal_store.specs.List.{listNumber, ListedBy}
 use Rattle.journal_store.specs.Checkpoint.{checkpointNumber}
-use Rattle.journal_store.specs.Recover.{Recovered}
-use Rattle.history.specs.History.{History, Deed, Did, Checkpointed, numbers, history, restarted, valueIn, reads, listIn}
-use Rattle.history.specs.Refusals.{lastIn, timeRefused, unknownOr, refusalIn, givesIn, needIn, numberIn, lookupNumber, readNumber}
+use Rattle.history.specs.History.{Commitment, History, Deed, Did, Checkpointed, numbers, history, valueIn, reads, listIn, writtenBy, isPresent}
+use Rattle.history.specs.Refusals.{lastIn, timeRefused, refusalIn, givesIn, needIn, numberIn, lookupNumber, readNumber}
+use Rattle.history.specs.Listed.{value-present, history-lists}
 use Rattle.history.specs.Replayed.{whole}
 use Rattle.history.specs.Lawful.{sound}
 use Rattle.history.specs.Told.{tells}
@@ -41,9 +34,13 @@ use Rattle.history.specs.RefusalsTold.{length-numbers, refused-told}
 use Rattle.history.specs.Tied.{refused-alike}
 use Rattle.history.specs.Allowed.{refused}
 use Rattle.history.specs.Answered.{lists, looksUp, readsIn, low-same, last-same, next-same, running-same, value-same, list-same, read-same}
-use Rattle.history.specs.Cells.{Cells, meaningOf, end, Holds, Lent, Shows, Cut, lost, Reached}
-use Rattle.history.specs.Meant.{meant}
-use Rattle.history.specs.Lent.{courseOf, told-same, after-same, shows-same, shows-alike, tie, lent-passes, lent-meaning}
+use Rattle.history.specs.Cells.{Cells, meaningOf, end, Lent, Shows, Reached}
+use Rattle.history.specs.Lent.{courseOf, told-same, shows-same, tie, lent-passes, lent-meaning}
+
+-- The history's list has every register written by a transaction committed at or before t, and no other; each with the history's value, once, keys rising.
+pub list-has : (cs : List Commitment) (t : ℕ)
+    → Lists (valueIn cs t) (listIn cs t) × ((k : ℕ) → isPresent (valueIn cs t k) ≡ writtenBy cs t k)
+list-has cs t = (history-lists cs t, λ k. value-present cs t k)
 
 -- the wanted room matters only where nothing else refuses
 pub room-same : (refused refused' wanted wanted' room : ℕ) → refused ≡ refused' → (refused ≡ 0 → wanted ≡ wanted')

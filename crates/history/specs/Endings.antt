@@ -1,7 +1,7 @@
 -- ENDING IS POSSIBLE. Rule 3.11 on the cells that the contracts speak of: where every call that writes a record is lent a journal of the same length,
 -- a running transaction can always be ended by abort, and abort and commit never get 12. Assumes nothing.
 use mathlib.Core.Path.{_≡_, ap, sym, _∙_, subst}
-use mathlib.Core.Bool.{true, false, cond, not}
+use mathlib.Core.Bool.{true}
 use mathlib.Core.List.{List}
 use mathlib.Core.Logic.{_≢_}
 use Prim.Native.Nat.{ℕ}

@@ -1,7 +1,6 @@
 -- Small sequences, computed: on 96 lent bytes, and on meanings a checkpoint while a transaction runs and a restart that loses a commit. Assumes nothing.
 use mathlib.Core.Path.{_≡_, refl}
 use mathlib.Core.List.{List, [], _∷_, reverse}
-use Prim.Native.Nat.{ℕ}
 use native.Mathlib.Omega.{arith}
 use lib.ListN.{replicate}
 use Rattle.rules.specs.declared.Value.the-variants.{Present}
@@ -11,7 +10,7 @@ use Rattle.rules.specs.Calls.{Begin, Update, Abort, Commit}
 use Rattle.answer.specs.Reply.{accepted}
 use Rattle.journal_store.specs.Read.{lookupDecided, shapedReply}
 use Rattle.history.specs.History.{Did}
-use Rattle.history.specs.Cells.{Cells, emptyCells, Reached, start, called}
+use Rattle.history.specs.Cells.{Cells, Reached, start, called}
 use Rattle.history.specs.Sequences.{Event, Called, Checkpoint, Restart}
 use Rattle.history.specs.Answered.{lists}
 use Rattle.history.specs.Meanings.{storeAfter, historyAfter}

@@ -1,25 +1,23 @@
 -- Checkpoint and recovery keep whole transactions, and the commits after T: what the rules read in what is kept. Assumes nothing.
 use mathlib.Core.Path.{_≡_, refl, ap, sym, _∙_}
-use mathlib.Core.Bool.{Bool, true, false, cond, not, _&&_, _||_}
+use mathlib.Core.Bool.{Bool, true, false, not, _&&_}
 use mathlib.Core.List.{List, [], _∷_}
-use Prim.Native.Nat.{ℕ, suc, _≤_, max}
+use Prim.Native.Nat.{ℕ, _≤_, max}
 use native.Mathlib.Omega.{arith}
 use native.Mathlib.Nat.{le-trans}
-use lib.Dec.{eqb, ltb}
-use lib.ListN.{length}
-use borrow.Author.Tests.{eqb-true, eq-eqb, ltb-true, ltb-false, le-leb, lt-leb, lt-ltb, le-ltb}
+use lib.Dec.{ltb}
+use borrow.Author.Tests.{eqb-true, ltb-true, ltb-false, le-leb, lt-leb, lt-ltb, le-ltb}
 use Rattle.rules.specs.declared.Record.{Record}
 use Rattle.rules.specs.declared.Value.{Value}
 use Rattle.rules.specs.declared.Effect.the-variants.{Assign, Add}
 use Rattle.rules.specs.Kinds.{isBegin, isUpdate, isCommit, isEnd, committed}
-use Rattle.rules.specs.Effects.{effects}
-use Rattle.rules.specs.Transactions.{any, of, stillOpen, runs, firstBegin, snapshot, wrote, keysWritten, opens, runningIn, running}
-use Rattle.rules.specs.Times.{last, above}
+use Rattle.rules.specs.Transactions.{any, of, runs, firstBegin, snapshot, wrote, running}
+use Rattle.rules.specs.Times.{last}
 use Rattle.rules.specs.Values.{value}
 use Rattle.rules.specs.Conflicts.{wroteAfter, touched, clashes, conflict}
 use Rattle.rules.specs.Checkpoints.{raise, sift}
 use Rattle.rules.specs.Recovery.{mayWrite}
-use Rattle.rules.specs.Bools.{split, and-left, and-right, and-both, or-left, or-right, or-none, not-both, implies-false, and-false}
+use Rattle.rules.specs.Bools.{split, and-left, and-right, and-both, or-left, or-right, implies-false, and-false}
 use Rattle.rules.specs.KeptLaws.{raised, of-kept, above-sift, kept-fewer, running-sift, raised-begin, raised-end, raised-wrote, raised-keys, raised-effects, raised-snapshot}
 use Rattle.history.specs.Good.{begin, update, commit, abort, Good, none, more}
 
@@ -32,11 +30,6 @@ pub data Fitting (K : ℕ → Bool) (T : ℕ) : List Record → Type 0 where
 pub last-low : (low T : ℕ) (rs : List Record) → low ≤ T → last T rs ≡ max T (last low rs)
 last-low low T [] l = omega arith
 last-low low T (r ∷ rs) l = split (isCommit r) (λ c. rw (c, last-low low T rs l) (omega arith)) (λ c. rw (c, last-low low T rs l))
-
--- last is at least low
-pub last-least : (low : ℕ) (rs : List Record) → low ≤ last low rs
-last-least low [] = omega arith
-last-least low (r ∷ rs) = let i = last-least low rs in split (isCommit r) (λ c. rw c (omega arith)) (λ c. rw c i)
 
 -- what was written after u was written after an earlier s
 touched-later : (whole : List Record) (s u k : ℕ) (rs : List Record) → s ≤ u → touched whole u k rs ≡ true → touched whole s k rs ≡ true

@@ -17,10 +17,11 @@ use Rattle.rules.specs.Checkpoints.{heldBy, held, late, stays, known, sift, kep
 use Rattle.rules.specs.Recovery.{done}
 use Rattle.rules.specs.Bools.{split, and-left, or-left, or-none-left, or-none-right, not-both, and-false, or-false}
 use Rattle.rules.specs.Running.{not-ended, below}
+use Rattle.journal.specs.CompactLaws.{low-last}
 use Rattle.history.specs.Good.{begin, update, commit, abort, Good, none, more}
 use Rattle.history.specs.Alike.{Alike}
 use Rattle.rules.specs.KeptLaws.{raised, of-kept, above-onto, running-sift, kept-all, runs-sift, of-none}
-use Rattle.history.specs.Kept.{Fitting, fit-none, fit-more, last-low, last-least, last-sift, touched-sift, good-sift, value-sift}
+use Rattle.history.specs.Kept.{Fitting, fit-none, fit-more, last-low, last-sift, touched-sift, good-sift, value-sift}
 
 -- a number not yet begun has no records
 pub fresh : {low : ℕ} {rs : List Record} → Good low rs → (n : ℕ) → above 1 rs ≤ n → of n rs ≡ []
@@ -77,7 +78,7 @@ module _ (low T : ℕ) where
       let o = not-ended (of n rs) a in
       let q = eq-eqb n n refl in
       e-more {c = committed n t}
-      (λ x. record { ended = rw q; settled = rw q; lates = rw (q, not-late T (of n rs) o, or-false (ltb T t)); above-low = omega (arith, last-least low rs) })
+      (λ x. record { ended = rw q; settled = rw q; lates = rw (q, not-late T (of n rs) o, or-false (ltb T t)); above-low = omega (arith, low-last low rs) })
       (ends-more (committed n t) rs o (ends g))
   ends (more {older = rs} g (abort n a)) = e-more (λ x. absurd (false≢true x)) (ends-more (aborted n) rs (not-ended (of n rs) a) (ends g))
 

@@ -1,13 +1,11 @@
 -- What lent cells of a store that calls reach mean, and what its answers are then. Assumes nothing.
 use mathlib.Core.Path.{_≡_, refl, ap, sym, _∙_, subst}
-use mathlib.Core.Bool.{Bool, true, false, cond}
+use mathlib.Core.Bool.{Bool, true, cond}
 use mathlib.Core.List.{List, _++_}
-use mathlib.Core.Logic.{_≢_}
-use Prim.Native.Nat.{ℕ, _+_, _≤_}
-use native.Mathlib.Omega.{arith}
-use lib.Dec.{eqb, ltb}
+use Prim.Native.Nat.{ℕ, _+_}
+use lib.Dec.{eqb}
 use lib.ListN.{length, drop}
-use borrow.Author.Tests.{eqb-true, eqb-false, eq-eqb, ne-eqb}
+use borrow.Author.Tests.{eqb-true}
 use Rattle.rules.specs.declared.Value.{Value}
 use Rattle.rules.specs.declared.Value.the-variants.{Absent, Present}
 use Rattle.rules.specs.Bools.{split}
@@ -18,10 +16,10 @@ use Rattle.answer.specs.Reply.{Reply, told, after}
 use Rattle.journal_store.specs.Shape.{Shaped, isShaped, meaning}
 use Rattle.journal_store.specs.ShapeLaws.{shape-passes}
 use Rattle.history.specs.History.{Deed}
-use Rattle.history.specs.Sequences.{Course, reached}
+use Rattle.history.specs.Sequences.{Course}
 use Rattle.history.specs.Tied.{Tied, tied}
 use Rattle.history.specs.Cells.{Cells, meaningOf, end, Lent, Shows, Reached}
-use Rattle.history.specs.Meant.{Meant, held-meaning, meant}
+use Rattle.history.specs.Meant.{held-meaning, meant}
 
 -- the store, its deeds and its records since, as the proofs on meanings have them
 abbrev pub courseOf : List Deed → ℕ → Cells → Course

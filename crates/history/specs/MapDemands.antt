@@ -4,21 +4,19 @@ use mathlib.Core.Path.{_≡_, refl, ap, sym, _∙_, subst}
 use mathlib.Core.Bool.{Bool, true, false, cond, not}
 use mathlib.Core.List.{List}
 use mathlib.Core.Logic.{_≢_}
-use Prim.Native.Nat.{ℕ, _+_, _≤_}
+use Prim.Native.Nat.{ℕ, _≤_}
 use native.Mathlib.Omega.{arith}
 use lib.Dec.{eqb, leb, ltb}
 use lib.ListN.{length}
 use borrow.Author.Tests.{not-false, eqb-true, eqb-false, eq-eqb, ltb-false}
-use Rattle.rules.specs.declared.Value.{Value}
-use Rattle.rules.specs.declared.Value.the-variants.{Absent, Present}
+use Rattle.rules.specs.declared.Value.the-variants.{Present}
 use Rattle.rules.specs.Bools.{split}
 use Rattle.rules.specs.Transactions.{runs}
-use Rattle.rules.specs.Values.{Row}
 use Rattle.rules.specs.Lists.{among}
 use Rattle.rules.specs.Running.{running-runs}
 use Rattle.rules.specs.Passed.{passed, fitting}
-use Rattle.rules.specs.Calls.{Store, lastOf, nextOf, Call, Begin, Update, Abort, Commit, withRoom}
-use Rattle.answer.specs.Reply.{Reply, told, after}
+use Rattle.rules.specs.Calls.{lastOf, nextOf, Call, Begin, Update, Abort, Commit, withRoom}
+use Rattle.answer.specs.Reply.{Reply, told}
 use Rattle.slot.specs.Places.{Place, free, taken, placeOf}
 use Rattle.journal_store.specs.declared.Head.{Head}
 use Rattle.journal_store.specs.Shape.{roomOf}
@@ -29,7 +27,7 @@ use Rattle.map_store.specs.declared.MapHead.{MapHead}
 use Rattle.map_store.specs.Meaning.{MapStore, mapRefusal, mapAnswer, abortRefusal, placeRefusal}
 use Rattle.map_store.specs.Contracts.{shapedNumber, Answered, readReply, lookupReply, ListedAt}
 use Rattle.map_store.specs.Laws.{number-good}
-use Rattle.history.specs.History.{Commitment, History, Deed, Did, Checkpointed, numbers, history, valueIn, reads, listIn}
+use Rattle.history.specs.History.{Deed, Did, Checkpointed, numbers, history, valueIn, reads, listIn}
 use Rattle.history.specs.Refusals.{lastIn, timeRefused, unknownOr, refusalIn, givesIn, numberIn, lookupNumber, readNumber}
 use Rattle.history.specs.Sequences.{Course, reached}
 use Rattle.history.specs.Allowed.{refused}
@@ -40,8 +38,8 @@ use Rattle.history.specs.Cells.{Cells, meaningOf, end, Lent, Shows, Reac
 use Rattle.history.specs.Meant.{meant}
 use Rattle.history.specs.Lent.{courseOf, told-same, shows-same, shows-alike, tie}
 use Rattle.history.specs.Demands.{room-same, in-time, low-is, last-is, running-is, refused-is, list-answers, looks-up-the-history, reads-the-history, calls-answer}
-use Rattle.history.specs.MapCells.{MapCells, mapMeaningOf, MapLent, Given}
-use Rattle.history.specs.MapMeant.{MapMeant, map-meant, map-lent-passes, map-lent-meaning}
+use Rattle.history.specs.MapCells.{MapCells, MapLent, Given}
+use Rattle.history.specs.MapMeant.{map-meant, map-lent-passes, map-lent-meaning}
 use Rattle.versions.specs.Versions as versions
 use Rattle.map_store.specs.Meaning as map
 use Rattle.map_store.specs.Contracts as contract

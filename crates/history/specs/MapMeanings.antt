@@ -1,16 +1,14 @@
 -- What is proved of the map store of the rules that is given the deeds of any sequence on meanings: it answers as the history does. MapDemands says it
 -- of the lent cells. Assumes nothing.
-use mathlib.Core.Path.{_≡_, refl, ap, sym, _∙_}
+use mathlib.Core.Path.{_≡_, sym, _∙_}
 use mathlib.Core.Bool.{true}
 use mathlib.Core.List.{List}
-use Prim.Native.Nat.{ℕ, _+_, _≤_}
-use lib.ListN.{length}
+use Prim.Native.Nat.{ℕ, _≤_}
 use Rattle.rules.specs.Transactions.{runs}
-use Rattle.rules.specs.Calls.{lastOf, nextOf, Commit, refusal, withRoom}
+use Rattle.rules.specs.Calls.{lastOf, nextOf}
 use Rattle.rules.specs.Listing.{lists-unique}
-use Rattle.slot.specs.Places.{placeOf}
-use Rattle.map_store.specs.Meaning.{MapStore, rowsAt, mapAnswer, mapAfter}
-use Rattle.history.specs.History.{Deed, Did, valueIn, listIn}
+use Rattle.map_store.specs.Meaning.{MapStore}
+use Rattle.history.specs.History.{Deed, valueIn, listIn}
 use Rattle.history.specs.Sequences.{Event, reached}
 use Rattle.history.specs.Listed.{history-lists}
 use Rattle.history.specs.Replayed.{whole}
@@ -19,7 +17,7 @@ use Rattle.history.specs.Lawful.{sound}
 use Rattle.history.specs.Told.{value-told, tells, read-told}
 use Rattle.history.specs.Tied.{now, low-now, refused-alike, tied}
 use Rattle.history.specs.Answered.{lists, readsIn}
-use Rattle.history.specs.Meanings.{storeAfter, historyAfter, lists-the-history, next-is, reads-the-history}
+use Rattle.history.specs.Meanings.{storeAfter, historyAfter, next-is, reads-the-history}
 use Rattle.history.specs.Maps.{mapRefused, mapped, mapAccepts}
 use Rattle.history.specs.MapAgrees.{Agree}
 use Rattle.history.specs.MapAnswers.{map-refused, sane, agree, map-accepts, map-read}
@@ -51,9 +49,6 @@ module _ (es : List Event) where
       (record { values = λ k i. p .values k i ∙ map-looks-up t k i l; rises = p .rises })
       (history-lists cs t)
 
-  pub map-lists-alike : (t : ℕ) → storeAfter es .low ≤ t → versions.listAt (mapAfterAll es .versions) t ≡ lists (storeAfter es) t
-  map-lists-alike t l = map-lists-the-history t l ∙ sym (lists-the-history es t l)
-
   -- Low, last and the next number are the journal store's.
   pub map-low : mapAfterAll es .low ≡ storeAfter es .low
   map-low = agreed .lows ∙ low-now (reached es) (tied es)
@@ -79,10 +74,3 @@ module _ (es : List Event) where
 
   pub map-refused-none : mapAccepts (reached es .deeds) ≡ true
   map-refused-none = map-accepts (tied es .lawful)
-
-  -- Room: a commit alone needs any, a row for each key that its transaction wrote.
-  pub map-commits : (room n t : ℕ)
-      → mapAnswer room (Commit n t) (mapAfterAll es)
-      ≡ withRoom (refusal (Commit n t) (storeAfter es))
-      (length (mapAfterAll es .versions) + length (rowsAt (placeOf n (mapAfterAll es .places)))) room
-  map-commits room n t = rw (map-refuses-alike (Did (Commit n t)))

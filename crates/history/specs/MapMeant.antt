@@ -1,14 +1,13 @@
 -- The columns of a map store that was given lawful deeds mean what the rules make of these deeds, and their shape is good. Assumes nothing.
-use mathlib.Core.Path.{_≡_, refl, ap, sym, _∙_, subst}
-use mathlib.Core.Bool.{Bool, true, false, cond, _&&_}
+use mathlib.Core.Path.{_≡_, ap, sym, _∙_}
+use mathlib.Core.Bool.{true}
 use mathlib.Core.List.{List, [], _∷_}
 use mathlib.Core.Logic.{_≢_}
-use Prim.Native.Nat.{ℕ, _<_, _≤_}
-use native.Mathlib.Omega.{arith}
+use Prim.Native.Nat.{ℕ, _<_}
 use lib.Dec.{eqb, leb}
 use lib.ListN.{length, take, getD}
 use lib.Seq.{getD-take}
-use borrow.Author.Tests.{eqb-true, eq-eqb}
+use borrow.Author.Tests.{eqb-true}
 use Rattle.rules.specs.Bools.{split, and-left, and-right}
 use Rattle.rules.specs.Calls.{Call, Begin, Update, Abort, Commit, withRoom}
 use Rattle.answer.specs.Reply.{Reply, after}
@@ -21,8 +20,8 @@ use Rattle.map_store.specs.Heads.{headAfter}
 use Rattle.map_store.specs.Contracts.{shapedNumber, number, Answered}
 use Rattle.map_store.specs.Laws.{number-good}
 use Rattle.map_store.specs.MeaningLaws.{shape-passes, empty-shaped, empty-meaning, begin-meaning, begin-shaped, update-meaning, update-shaped, abort-meaning, abort-shaped, commit-meaning, commit-shaped, checkpoint-meaning, checkpoint-shaped}
-use Rattle.history.specs.History.{Deed, Did, Checkpointed}
-use Rattle.history.specs.Maps.{mapRefused, mapDid, mapped, mapAccepts}
+use Rattle.history.specs.History.{Deed}
+use Rattle.history.specs.Maps.{mapRefused, mapped, mapAccepts}
 use Rattle.history.specs.MapCells.{MapCells, mapMeaningOf, MapLent, Does, begins, updates, aborts, commits, checkpoints, Given, nothing-given, given}
 use Rattle.map_store.specs.Meaning as map
 

@@ -1,6 +1,5 @@
 -- The map store that is given the same deeds as a journal store: the accepted calls and checkpoints, with an abort for each transaction that a restart
 -- ended. Assumes nothing.
-use mathlib.Core.Path.{_≡_}
 use mathlib.Core.Bool.{Bool, true, _&&_}
 use mathlib.Core.List.{List, [], _∷_}
 use Prim.Native.Nat.{ℕ}

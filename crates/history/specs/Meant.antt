@@ -1,10 +1,10 @@
 -- The cells that calls reach mean what the same events reach on meanings, and their shape is good: what is proved of records, rows and times holds of
 -- the bytes and columns. Assumes nothing.
 use mathlib.Core.Path.{_≡_, refl, ap, sym, _∙_, subst}
-use mathlib.Core.Bool.{Bool, true, false, cond, not, _&&_}
+use mathlib.Core.Bool.{true, not, _&&_}
 use mathlib.Core.List.{List, [], _∷_, _++_}
-use Prim.Native.Nat.{ℕ, suc, _+_, _-_, _*_, _/_, _^_, _<_, _≤_, min}
-use native.Mathlib.Nat.{min-le-right, min-le-left}
+use Prim.Native.Nat.{ℕ, suc, _+_, _-_, _*_, _/_, _^_, _<_, _≤_}
+use native.Mathlib.Nat.{min-le-right}
 use native.Mathlib.Omega.{arith}
 use lib.Dec.{eqb, leb}
 use lib.ListN.{length, take, drop, take-append-drop}
@@ -15,16 +15,16 @@ use Rattle.rules.specs.Bools.{split, and-left, and-right}
 use Rattle.rules.specs.Kinds.{recordBytes}
 use Rattle.rules.specs.Times.{next}
 use Rattle.rules.specs.Lists.{rowKeys}
-use Rattle.rules.specs.Columns.{firstRows, rowValues}
+use Rattle.rules.specs.Columns.{rowValues}
 use Rattle.rules.specs.Checkpoints.{kept}
-use Rattle.rules.specs.Recovery.{accepts, survivors, walk}
+use Rattle.rules.specs.Recovery.{survivors}
 use Rattle.rules.specs.Calls.{Store, nextOf, Call, recordOf, answer, checkpointAnswer, push, checkpointed}
 use Rattle.record.specs.Bytes.{Bytes, newest, appended}
 use Rattle.record.specs.Laws.{newest-front, length-newest, drop-newest}
 use Rattle.answer.specs.Reply.{Reply, after}
 use Rattle.journal.specs.Compact.{compacted}
 use Rattle.journal_store.specs.declared.Head.{Head}
-use Rattle.journal_store.specs.Shape.{emptyHead, grown, isShaped, Shaped, shape, roomOf, rowRoom, meaning}
+use Rattle.journal_store.specs.Shape.{grown, isShaped, Shaped, shape, roomOf, rowRoom, meaning}
 use Rattle.journal_store.specs.Write.{Wrote, number, room-left, need-some}
 use Rattle.journal_store.specs.List.{listOf}
 use Rattle.journal_store.specs.Checkpoint.{checkpointHead, checkpointNumber}
@@ -33,7 +33,7 @@ use Rattle.journal_store.specs.Tie.{SizedCall, fit-call, push-meaning, checkpoi
 use Rattle.journal_store.specs.ShapeLaws.{call-shaped, checkpoint-shaped, recover-shaped}
 use Rattle.history.specs.History.{Deed, Did, Checkpointed, restarted}
 use Rattle.history.specs.Sequences.{Event, Called, Checkpoint, Restart, Course, lose, recovered, ifAccepted, happen, reached, Ever, never, called, checkpointed-at, restarted-with}
-use Rattle.history.specs.Cells.{Cells, emptyCells, meaningOf, end, Holds, Cut, lost, Reached}
+use Rattle.history.specs.Cells.{Cells, meaningOf, end, Holds, Cut, lost, Reached}
 use Rattle.history.specs.Meanings.{floor-in-range, cut-goes-on}
 use Rattle.history.specs.Cells as cells
 use Rattle.journal_store.specs.Checkpoint as checkpoint

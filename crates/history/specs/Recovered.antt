@@ -16,10 +16,11 @@ use Rattle.rules.specs.Values.{value}
 use Rattle.rules.specs.Recovery.{accepts, done, only, survivors}
 use Rattle.rules.specs.Calls.{Store, nextOf}
 use Rattle.rules.specs.Bools.{split, or-right, not-both, and-false}
+use Rattle.journal.specs.CompactLaws.{low-last}
 use Rattle.history.specs.Sequences.{recovered}
 use Rattle.history.specs.Good.{Good}
 use Rattle.history.specs.Judged.{good-accepts, accepts-good}
-use Rattle.history.specs.Kept.{Fitting, last-least, last-sift, value-sift}
+use Rattle.history.specs.Kept.{Fitting, last-sift, value-sift}
 use Rattle.history.specs.KeptAlike.{ends, fit-done}
 use Rattle.history.specs.RecoveredAlike.{sift-low, value-low, good-recover}
 use Rattle.history.specs.Numbers.{above-least}
@@ -94,7 +95,7 @@ module _ (low : ℕ) (rs : List Record) (h : accepts low rs ≡ true) where
 
   -- last stays
   pub survivors-last : last low (survivors rs) ≡ last low rs
-  survivors-last = rw (← sift-low (done rs) good, last-sift (done rs) low (omega arith) good fit) (omega (arith, last-least low rs))
+  survivors-last = rw (← sift-low (done rs) good, last-sift (done rs) low (omega arith) good fit) (omega (arith, low-last low rs))
 
   -- values stay from low on
   pub survivors-value : (v : Value) (k t : ℕ) → low ≤ t → value v k t (survivors rs) ≡ value v k t rs

@@ -18,9 +18,10 @@ use Rattle.rules.specs.Checkpoints.{sift}
 use Rattle.rules.specs.Recovery.{done, only}
 use Rattle.rules.specs.Bools.{split, or-none, or-none-left, or-none-right, not-both, implies-false, and-false}
 use Rattle.rules.specs.Running.{not-ended, running-runs}
+use Rattle.journal.specs.CompactLaws.{low-last}
 use Rattle.history.specs.Good.{begin, update, commit, abort, Good, none, more}
 use Rattle.history.specs.Alike.{Alike, alike-abort}
-use Rattle.history.specs.Kept.{Fitting, fit-more, last-least, good-sift}
+use Rattle.history.specs.Kept.{Fitting, fit-more, good-sift}
 use Rattle.history.specs.KeptAlike.{ends, fit-done, alike-sift}
 
 -- an abort of each of these numbers that runs
@@ -80,7 +81,7 @@ value-low v k none = refl
 value-low v k (more g (begin n s a b c d e)) = value-low v k g
 value-low v k (more g (update n j (Assign u) a b c)) = value-low v k g
 value-low v k (more g (update n j (Add u) a b c)) = value-low v k g
-value-low v k {low} (more {older = rs} g (commit n t a b c)) = rw (lt-leb t low (omega (arith, last-least low rs))) (value-low v k g)
+value-low v k {low} (more {older = rs} g (commit n t a b c)) = rw (lt-leb t low (omega (arith, low-last low rs))) (value-low v k g)
 value-low v k (more g (abort n a)) = value-low v k g
 
 -- the next number
@@ -127,6 +128,6 @@ alike-recover low fa fb va vb a b h g =
     let g' : Good low a' = good-end ns g in
     let e : sift (done a) low a' ≡ only (done a) a = sift-low (done a) g' ∙ only-end (done a) ns a (λ n u. not-done (of n a) (not-ended (of n a) u)) in
     rw (above-end fa ns a, e, h .runnings) at
-    (alike-sift low fa fb va vb a' (endAll ns b) (alike-end low fa fb va vb ns a b h) g' (done a) low va (omega arith) (last-least low a')
+    (alike-sift low fa fb va vb a' (endAll ns b) (alike-end low fa fb va vb ns a b h) g' (done a) low va (omega arith) (low-last low a')
     (fit-end (done a) low ns a (fit-done low a (ends low low g)))
     (λ n u. not-both (runs n a') u (none-run n a)) (λ n u. not-both (runs n a') u (none-run n a)) (λ k i. sym (value-low (va k) k g')))

@@ -2,28 +2,25 @@
 -- recovery or empty start to its end now is accepted, whatever room is lent behind the surviving bytes; then the store answers as the history of the
 -- whole surviving records. Recovery reads back what the calls wrote, and recovering again changes no cell. Assumes nothing.
 use mathlib.Core.Path.{_≡_, refl, ap, sym, _∙_, subst}
-use mathlib.Core.Bool.{Bool, true, false, cond, not, _&&_}
+use mathlib.Core.Bool.{true}
 use mathlib.Core.List.{List, [], _∷_, _++_}
-use Prim.Native.Nat.{ℕ, _-_, _*_, _/_, _≤_}
+use Prim.Native.Nat.{ℕ, _-_, _*_, _/_}
 use native.Mathlib.Nat.{sub-self}
 use native.Mathlib.Omega.{arith}
-use lib.Dec.{eqb, leb, ltb}
+use lib.Dec.{ltb}
 use lib.ListN.{length, take, drop, replicate}
 use lib.Seq.{length-take-le, drop-at}
 use borrow.Author.Tests.{le-leb, eq-eqb, ne-eqb}
 use Rattle.rules.specs.declared.Record.{Record}
 use Rattle.rules.specs.declared.Value.the-variants.{Absent}
-use Rattle.rules.specs.declared.Walked.{Walked}
 use Rattle.rules.specs.declared.Walked.the-variants.{Whole}
-use Rattle.rules.specs.Bools.{split, and-left, and-right}
+use Rattle.rules.specs.Bools.{and-left, and-right}
 use Rattle.rules.specs.Kinds.{recordBytes}
-use Rattle.rules.specs.Values.{Row}
-use Rattle.rules.specs.Lists.{among, rising}
+use Rattle.rules.specs.Lists.{rising}
 use Rattle.rules.specs.Columns.{rowsOf}
 use Rattle.rules.specs.Recovery.{walk, survivors}
 use Rattle.rules.specs.Calls.{Store, withRoom}
 use Rattle.record.specs.Bytes.{Bytes, newest}
-use Rattle.record.specs.Laws.{length-newest}
 use Rattle.record.specs.Laid.{laid, length-laid}
 use Rattle.answer.specs.Reply.{Reply, accepted, told, after}
 use Rattle.journal.specs.Compact.{compacted}
@@ -31,18 +28,18 @@ use Rattle.journal.specs.WalkJudged.{whole-walk}
 use Rattle.journal_store.specs.declared.Head.{Head}
 use Rattle.journal_store.specs.Read.{lookupDecided, shapedReply}
 use Rattle.journal_store.specs.List.{ListedBy}
-use Rattle.journal_store.specs.Recover.{risingKeys, journalBytes, isRecoverable, surviving, walkedReply, recoverReply, recoveredHead, Recoverable, recoverable, Recovered}
+use Rattle.journal_store.specs.Recover.{risingKeys, journalBytes, isRecoverable, surviving, walkedReply, recoverReply, recoveredHead, recoverable, Recovered}
 use Rattle.journal_store.specs.Tie.{recover-meaning}
-use Rattle.history.specs.History.{History, Deed, Did, Runner, numbers, history, aborting, restarted, valueIn, listIn}
+use Rattle.history.specs.History.{Deed, numbers, history, restarted, valueIn, listIn}
 use Rattle.history.specs.Refusals.{timeRefused, lookupNumber}
 use Rattle.history.specs.Sequences as sequences
 use Rattle.history.specs.Judged.{good-accepts}
 use Rattle.history.specs.Recovered.{recovered-again}
 use Rattle.history.specs.Tied.{cut-good}
 use Rattle.history.specs.Answered.{aborting-low, restarted-commitments, restarted-runners}
-use Rattle.history.specs.Cells.{Cells, meaningOf, end, Holds, Lent, Shows, Cut, lost, Reached, recovered}
+use Rattle.history.specs.Cells.{Cells, meaningOf, end, Lent, Shows, Cut, lost, Reached, recovered}
 use Rattle.history.specs.Meant.{meant, survived-records}
-use Rattle.history.specs.Lent.{courseOf, shows-same, shows-alike, tie, own}
+use Rattle.history.specs.Lent.{courseOf, shows-alike, tie, own}
 use Rattle.history.specs.Demands.{list-answers, looks-up-the-history}
 
 -- rising rows have rising keys

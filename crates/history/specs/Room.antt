@@ -1,42 +1,27 @@
 -- Rule 3.11: with the same lent room throughout, there is always a free record for each running transaction. Assumes nothing.
 use mathlib.Core.Path.{_≡_, refl, sym, _∙_}
-use mathlib.Core.Bool.{Bool, true, false, not, _&&_, false≢true}
+use mathlib.Core.Bool.{false}
 use mathlib.Core.List.{List, [], _∷_}
-use Prim.Native.Nat.{ℕ, suc, _+_, _≤_, min}
+use Prim.Native.Nat.{ℕ, min}
 use native.Mathlib.Omega.{arith}
 use lib.Dec.{eqb}
 use lib.ListN.{length, drop, length-drop}
-use borrow.Author.Tests.{eqb-true, eqb-false, eq-eqb, ne-eqb, not-true}
+use borrow.Author.Tests.{eqb-true}
 use Rattle.rules.specs.declared.Record.{Record}
-use Rattle.rules.specs.declared.Effect.the-variants.{Assign, Add}
-use Rattle.rules.specs.Kinds.{isBegin, isEnd, begun, assigned, added, committed, aborted}
-use Rattle.rules.specs.Transactions.{any, of, runs, opens, runningIn, running}
+use Rattle.rules.specs.Transactions.{runs, running}
 use Rattle.rules.specs.Lists.{listAt}
-use Rattle.rules.specs.Checkpoints.{stays, isKnown, known, sift}
-use Rattle.rules.specs.Recovery.{accepts, done, only, survivors}
-use Rattle.rules.specs.Calls.{Store, nextOf, Call, recordOf, refusal, checkpointRefusal, need, answer, checkpointAnswer, push}
-use Rattle.rules.specs.Bools.{split, and-left, and-right, not-both, implies-false, or-false}
+use Rattle.rules.specs.Recovery.{accepts, done, survivors}
+use Rattle.rules.specs.Calls.{Store, checkpointRefusal, answer, checkpointAnswer}
+use Rattle.rules.specs.Bools.{split, not-both}
 use Rattle.rules.specs.Passed.{fitting}
 use Rattle.rules.specs.RoomLaws.{Roomy, room-for-each}
-use Rattle.history.specs.History.{Did, Checkpointed}
+use Rattle.journal.specs.CompactLaws.{length-kept, length-only}
+use Rattle.history.specs.History.{Checkpointed}
 use Rattle.history.specs.Sequences.{Event, lose, recovered, reached, Ever, never, called, checkpointed-at, restarted-with}
-use Rattle.rules.specs.KeptLaws.{any-more, numbersKept, kept-all}
+use Rattle.rules.specs.KeptLaws.{numbersKept, kept-all}
 use Rattle.history.specs.Recovered.{survivors-none}
 use Rattle.history.specs.Allowed.{allowed}
 use Rattle.history.specs.Tied.{now, alike-checkpointed, tied}
-
--- no more records than there were
-sift-length : (K : ℕ → Bool) (T : ℕ) (rs : List Record) → length (sift K T rs) ≤ length rs
-sift-length K T [] = omega arith
-sift-length K T (r ∷ rs) = let i = sift-length K T rs in split (K (r .transaction)) (λ e. rw e (omega arith)) (λ e. rw e (omega arith))
-
-known-length : (rs : List Record) → length (known rs) ≤ length rs
-known-length [] = omega arith
-known-length (r ∷ rs) = let i = known-length rs in split (isKnown r) (λ e. rw e (omega arith)) (λ e. rw e (omega arith))
-
-only-length : (K : ℕ → Bool) (rs : List Record) → length (only K rs) ≤ length rs
-only-length K [] = omega arith
-only-length K (r ∷ rs) = let i = only-length K rs in split (K (r .transaction)) (λ e. rw e (omega arith)) (λ e. rw e (omega arith))
 
 -- none is kept
 none-kept : (ns : List ℕ) → numbersKept 0 (λ n. false) ns ≡ []
@@ -52,7 +37,7 @@ module _ (room : ℕ) (s : Store) (k : Roomy room s) where
   room-restart : (x : ℕ) → Roomy room (recovered (lose x s))
   room-restart x =
       let a : List Record = drop x (s .records) in
-      rw (running-none (survivors a) (survivors-none a)) (omega (arith, only-length (done a) a, length-drop x (s .records)))
+      rw (running-none (survivors a) (survivors-none a)) (omega (arith, length-only (done a) a, length-drop x (s .records)))
 
 -- with the same room throughout, every sequence leaves a free record for each running transaction
 pub roomy : (room : ℕ) {es : List Event} → Ever room es → Roomy room (reached es .store)
@@ -70,7 +55,7 @@ roomy room (checkpointed-at {es = es} rows t e) =
     let ok = fitting (checkpointRefusal t s) (length (listAt (s .base) (s .records) t)) rows (eqb-true (checkpointAnswer rows t s) 0 x) .0 in
     let m = alike-checkpointed y (tied es) (allowed s (Checkpointed t) ok) in
     rw (x, m .runnings, ← now y (tied es) .runnings)
-    (omega (arith, roomy room e, sift-length (stays t (s .records)) t (known (s .records)), known-length (s .records))))
+    (omega (arith, roomy room e, length-kept t (s .records) (s .records))))
     (λ x. rw x (roomy room e))
 roomy room (restarted-with {es = es} lost e) =
     let y = reached es in

@@ -1,14 +1,12 @@
 -- CHECKPOINT IS SILENT. However many checkpoints a sequence has: at every time that is still answered for it lists what the same sequence lists with
 -- any of its accepted checkpoints taken out, and without them the rules refuse none of its calls. Assumes nothing.
 use mathlib.Core.Path.{_≡_, refl, ap, sym, _∙_, subst}
-use mathlib.Core.Bool.{Bool, true, false, cond}
 use mathlib.Core.List.{List, [], _∷_}
 use Prim.Native.Nat.{ℕ, _≤_, max}
 use native.Mathlib.Omega.{arith}
-use lib.Dec.{leb, ltb}
+use lib.Dec.{ltb}
 use lib.ListN.{length}
-use borrow.Author.Tests.{le-ltb, ltb-false}
-use Rattle.rules.specs.Times.{last}
+use borrow.Author.Tests.{le-ltb}
 use Rattle.rules.specs.Passed.{passed}
 use Rattle.rules.specs.Calls.{Call, Begin, Update, Abort, Commit, withRoom}
 use Rattle.answer.specs.Reply.{Reply}
@@ -18,7 +16,7 @@ use Rattle.history.specs.Refusals.{lastIn, timeRefused, refusalIn}
 use Rattle.history.specs.Replayed.{whole}
 use Rattle.history.specs.Lawful.{Lawful, sound}
 use Rattle.history.specs.Told.{last-told, tells}
-use Rattle.history.specs.Cells.{Cells, end, Lent, Shows, Reached}
+use Rattle.history.specs.Cells.{Cells, end, Lent, Reached}
 use Rattle.history.specs.Lent.{shows-same, shows-alike, tie}
 use Rattle.history.specs.Demands.{list-answers}
 
