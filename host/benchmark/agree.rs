@@ -3,7 +3,7 @@
 
 use crate::library::{Answer, Head, MapHead};
 use crate::limits::RECORD_BYTES;
-use crate::stores::{JournalCalls, JournalLent, MapCalls, MapLent, Plain, Proved};
+use crate::stores::{Calls, JournalLent, MapLent, Plain, Proved};
 
 /// How many stores are tried of each kind, and how many calls on each.
 const STORES: usize = 100;
@@ -94,7 +94,7 @@ fn draw(random: &mut Random, next: u32, last: u64, survived: usize) -> Call {
 /// What a call leaves: answer, and the rows of a list.
 type Left = (Answer, [u32; ROWS], [u32; ROWS]);
 
-fn journal_call<C: JournalCalls>(call: Call, h: &mut Head, l: &mut JournalLent) -> Left {
+fn made<H, L, C: Calls<H, L>>(call: Call, h: &mut H, l: &mut L) -> Left {
     let (mut keys, mut values) = ([0; ROWS], [0; ROWS]);
     let answer = match call {
         Call::Begin(t) => C::begin(h, l, t),
@@ -107,24 +107,6 @@ fn journal_call<C: JournalCalls>(call: Call, h: &mut Head, l: &mut JournalLent) 
         Call::List(t) => C::list(h, l, t, &mut keys, &mut values),
         Call::Checkpoint(t) => C::checkpoint(h, l, t),
         Call::Recover(survived) => C::recover(h, l, survived),
-    };
-    (answer, keys, values)
-}
-
-fn map_call<C: MapCalls>(call: Call, h: &mut MapHead, l: &mut MapLent) -> Left {
-    let (mut keys, mut values) = ([0; ROWS], [0; ROWS]);
-    let answer = match call {
-        Call::Begin(t) => C::begin(h, l, t),
-        Call::Assign(n, k, v) => C::assign(h, l, n, k, v),
-        Call::Add(n, k, d) => C::add(h, l, n, k, d),
-        Call::Abort(n) => C::abort(h, l, n),
-        Call::Commit(n, t) => C::commit(h, l, n, t),
-        Call::Read(n, k) => C::read(h, l, n, k),
-        Call::Lookup(k, t) => C::lookup(h, l, k, t),
-        Call::List(t) => C::list(h, l, t, &mut keys, &mut values),
-        // The map has no recover.
-        Call::Recover(_) => C::lookup(h, l, 1, h.last),
-        Call::Checkpoint(t) => C::checkpoint(h, l, t),
     };
     (answer, keys, values)
 }
@@ -164,8 +146,8 @@ fn damage_map(random: &mut Random, h: &mut MapHead, l: &mut MapLent) {
 
 fn one_journal(random: &mut Random, damaged: bool) {
     let mut lent = JournalLent { keys: vec![0; ROWS], values: vec![0; ROWS], journal: vec![0; RECORDS * RECORD_BYTES] };
-    let mut head = <Proved as JournalCalls>::empty();
-    assert_eq!(head, <Plain as JournalCalls>::empty());
+    let mut head = <Proved as Calls<_, JournalLent>>::empty();
+    assert_eq!(head, <Plain as Calls<_, JournalLent>>::empty());
     let (mut next, mut last) = (1, 0);
     for _ in 0..CALLS {
         if damaged && random.below(DAMAGE) == 0 {
@@ -173,8 +155,8 @@ fn one_journal(random: &mut Random, damaged: bool) {
         }
         let call = draw(random, next, last, head.used * RECORD_BYTES);
         let (mut plain_head, mut plain_lent) = (head, lent.clone());
-        let proved = journal_call::<Proved>(call, &mut head, &mut lent);
-        let plain = journal_call::<Plain>(call, &mut plain_head, &mut plain_lent);
+        let proved = made::<_, _, Proved>(call, &mut head, &mut lent);
+        let plain = made::<_, _, Plain>(call, &mut plain_head, &mut plain_lent);
         assert_eq!((proved, head, &lent), (plain, plain_head, &plain_lent), "the stores differ after {call:?}");
         match (call, proved.0.number) {
             (Call::Begin(_), 0) => next = proved.0.value as u32 + 1,
@@ -186,16 +168,16 @@ fn one_journal(random: &mut Random, damaged: bool) {
 
 fn one_map(random: &mut Random, damaged: bool) {
     let mut lent = MapLent { keys: vec![0; MAP_ROWS], times: vec![0; MAP_ROWS], values: vec![0; MAP_ROWS] };
-    let mut head = <Proved as MapCalls>::empty();
-    assert_eq!(head, <Plain as MapCalls>::empty());
+    let mut head = <Proved as Calls<_, MapLent>>::empty();
+    assert_eq!(head, <Plain as Calls<_, MapLent>>::empty());
     for _ in 0..CALLS {
         if damaged && random.below(DAMAGE) == 0 {
             damage_map(random, &mut head, &mut lent);
         }
         let call = draw(random, head.next, head.last, 0);
         let (mut plain_head, mut plain_lent) = (head, lent.clone());
-        let proved = map_call::<Proved>(call, &mut head, &mut lent);
-        let plain = map_call::<Plain>(call, &mut plain_head, &mut plain_lent);
+        let proved = made::<_, _, Proved>(call, &mut head, &mut lent);
+        let plain = made::<_, _, Plain>(call, &mut plain_head, &mut plain_lent);
         assert_eq!((proved, &head, &lent), (plain, &plain_head, &plain_lent), "the stores differ after {call:?}");
     }
 }

@@ -2,7 +2,7 @@
 
 use crate::library::{Answer, Head, MapHead};
 use crate::limits::{ACCEPTED, KEYS};
-use crate::stores::{JournalCalls, JournalLent, MapCalls, MapLent, Plain};
+use crate::stores::{Calls, JournalLent, MapLent, Plain};
 
 /// How many records a transaction of begin, two updates and commit has.
 pub const TRANSACTION_RECORDS: usize = 4;
@@ -34,7 +34,7 @@ pub struct JournalStore {
 
 impl JournalStore {
     pub fn empty() -> Self {
-        JournalStore { head: <Plain as JournalCalls>::empty(), lent: JournalLent::whole(), last: 0 }
+        JournalStore { head: <Plain as Calls<_, JournalLent>>::empty(), lent: JournalLent::whole(), last: 0 }
     }
 
     /// So many registers in the base, and so many transactions of two updates in the journal.
@@ -46,7 +46,7 @@ impl JournalStore {
             part.iter().for_each(|&k| s.assigned(n, k, k));
             s.committed(n);
         }
-        taken(<Plain as JournalCalls>::checkpoint(&mut s.head, &mut s.lent, s.last));
+        taken(Plain::checkpoint(&mut s.head, &mut s.lent, s.last));
         for i in 0..transactions {
             let n = s.updated(s.last, register(2 * i, registers), register(2 * i + 1, registers));
             s.committed(n);
@@ -56,28 +56,28 @@ impl JournalStore {
 
     /// A transaction begun with a snapshot; its number.
     pub fn begun(&mut self, snapshot: u64) -> u32 {
-        taken(<Plain as JournalCalls>::begin(&mut self.head, &mut self.lent, snapshot)) as u32
+        taken(Plain::begin(&mut self.head, &mut self.lent, snapshot)) as u32
     }
 
     pub fn assigned(&mut self, n: u32, k: u32, v: u32) {
-        taken(<Plain as JournalCalls>::assign(&mut self.head, &mut self.lent, n, k, v));
+        taken(Plain::assign(&mut self.head, &mut self.lent, n, k, v));
     }
 
     /// A transaction begun and two registers updated; its number.
     pub fn updated(&mut self, snapshot: u64, k: u32, other: u32) -> u32 {
         let n = self.begun(snapshot);
         self.assigned(n, k, self.last as u32);
-        taken(<Plain as JournalCalls>::add(&mut self.head, &mut self.lent, n, other, RAISE));
+        taken(Plain::add(&mut self.head, &mut self.lent, n, other, RAISE));
         n
     }
 
     pub fn committed(&mut self, n: u32) {
         self.last += 1;
-        taken(<Plain as JournalCalls>::commit(&mut self.head, &mut self.lent, n, self.last));
+        taken(Plain::commit(&mut self.head, &mut self.lent, n, self.last));
     }
 
     pub fn aborted(&mut self, n: u32) {
-        taken(<Plain as JournalCalls>::abort(&mut self.head, &mut self.lent, n));
+        taken(Plain::abort(&mut self.head, &mut self.lent, n));
     }
 }
 
@@ -90,7 +90,7 @@ pub struct MapStore {
 
 impl MapStore {
     pub fn empty() -> Self {
-        MapStore { head: <Plain as MapCalls>::empty(), lent: MapLent::whole() }
+        MapStore { head: <Plain as Calls<_, MapLent>>::empty(), lent: MapLent::whole() }
     }
 
     /// So many transactions of two updates, spread over the registers.
@@ -99,23 +99,23 @@ impl MapStore {
         for i in 0..transactions {
             let n = s.updated(s.head.last, register(2 * i, registers), register(2 * i + 1, registers));
             let later = s.head.last + 1;
-            taken(<Plain as MapCalls>::commit(&mut s.head, &mut s.lent, n, later));
+            taken(Plain::commit(&mut s.head, &mut s.lent, n, later));
         }
         s
     }
 
     pub fn begun(&mut self, snapshot: u64) -> u32 {
-        taken(<Plain as MapCalls>::begin(&mut self.head, &mut self.lent, snapshot)) as u32
+        taken(Plain::begin(&mut self.head, &mut self.lent, snapshot)) as u32
     }
 
     pub fn assigned(&mut self, n: u32, k: u32, v: u32) {
-        taken(<Plain as MapCalls>::assign(&mut self.head, &mut self.lent, n, k, v));
+        taken(Plain::assign(&mut self.head, &mut self.lent, n, k, v));
     }
 
     pub fn updated(&mut self, snapshot: u64, k: u32, other: u32) -> u32 {
         let n = self.begun(snapshot);
         self.assigned(n, k, self.head.last as u32);
-        taken(<Plain as MapCalls>::add(&mut self.head, &mut self.lent, n, other, RAISE));
+        taken(Plain::add(&mut self.head, &mut self.lent, n, other, RAISE));
         n
     }
 }

@@ -1,68 +1,19 @@
 //! The journal store's calls, timed one by one.
 
+use crate::cases::{self, pair, Case, Outcome, ASSIGNED, COMPARED, COPIES_EMPTY, COPIES_FILLED};
 use crate::fixture::{register, JournalStore, RAISE, TRANSACTION_RECORDS};
 use crate::library::{Answer, Head};
 use crate::limits::{JOURNAL_RECORDS, LIST_ROWS, RECORD_BYTES};
 use crate::report::Pair;
-use crate::stores::{JournalCalls, JournalLent, Plain, Proved};
+use crate::stores::{Calls, JournalCalls, JournalLent, Plain, Proved};
 use crate::timing;
 use std::hint::black_box;
 
-/// A call that is timed.
-#[derive(Clone, Copy, Debug)]
-enum Case {
-    Begin,
-    Assign,
-    Add,
-    Read,
-    Commit,
-    CommitOld,
-    Abort,
-    Lookup,
-    List,
-    Checkpoint,
-    CheckpointHalf,
-    Recover,
-}
-
-/// The calls in the order of the tables, with their names there.
-const CASES: [(Case, &str); 12] = [
-    (Case::Begin, "begin"),
-    (Case::Assign, "update, assign"),
-    (Case::Add, "update, add"),
-    (Case::Read, "read"),
-    (Case::Commit, "commit"),
-    (Case::CommitOld, "commit, snapshot at low"),
-    (Case::Abort, "abort"),
-    (Case::Lookup, "lookup at last"),
-    (Case::List, "list at last"),
-    (Case::Checkpoint, "checkpoint at last"),
-    (Case::CheckpointHalf, "checkpoint halfway"),
-    (Case::Recover, "recover"),
-];
+type Timed = cases::Timed<Head, JournalLent>;
 
 pub fn names() -> Vec<&'static str> {
-    CASES.iter().map(|case| case.1).collect()
+    cases::names(&cases::JOURNAL)
 }
-
-/// How many calls with different keys are compared before any is timed.
-const COMPARED: usize = 4;
-/// What an assign gives.
-const ASSIGNED: u32 = 7;
-/// How many copies of a store one sample of a checkpoint or recovery works on: many of an empty one, since reading the
-/// clock takes longer than the call.
-const COPIES_EMPTY: usize = 64;
-const COPIES_FILLED: usize = 1;
-
-/// What a call answers and leaves, which must be the same for both.
-#[derive(PartialEq, Debug)]
-struct Outcome {
-    answers: Vec<Answer>,
-    head: Head,
-    lent: JournalLent,
-}
-
-type Timed = (f64, Outcome);
 
 /// A call that only adds behind the used records, or nothing: with the old head it does the same again.
 fn again(s: &JournalStore, mut call: impl FnMut(&mut Head, &mut JournalLent, usize) -> Answer) -> Timed {
@@ -104,8 +55,7 @@ fn on_copies(s: &JournalStore, mut call: impl FnMut(&mut Head, &mut JournalLent)
 fn listing<C: JournalCalls>(s: &JournalStore) -> Timed {
     let (mut keys, mut values) = (vec![0; LIST_ROWS], vec![0; LIST_ROWS]);
     let (ns, mut outcome) = again(s, |h, l, _| C::list(h, l, s.last, &mut keys, &mut values));
-    let rows = keys.iter().zip(&values);
-    outcome.answers.extend(rows.map(|(&key, &value)| Answer { number: 0, present: key, value: u64::from(value) }));
+    outcome.answers.extend(cases::rows(&keys, &values));
     (ns, outcome)
 }
 
@@ -170,19 +120,10 @@ impl Level {
     }
 }
 
-/// The times of both, once they answered and left the same.
-fn pair(proved: Timed, plain: Timed, what: &str) -> Pair {
-    assert_eq!(proved.1, plain.1, "library and plain Rust differ: {what}");
-    Pair { proved: proved.0, plain: plain.0 }
-}
-
 /// The times of all calls on a store with so many registers in the base and so many records in the journal.
 pub fn times(registers: usize, records: usize) -> Vec<Pair> {
     let level = Level::new(registers, records);
-    let one = |&(case, name): &(Case, &str)| pair(level.time::<Proved>(case), level.time::<Plain>(case), name);
-    let round = || CASES.iter().map(one).collect::<Vec<Pair>>();
-    let better = |a: Vec<Pair>, b: Vec<Pair>| a.into_iter().zip(b).map(|(a, b)| a.min(b)).collect();
-    (1..timing::ROUNDS).map(|_| round()).fold(round(), better)
+    cases::best(&cases::JOURNAL, |case, name| pair(level.time::<Proved>(case), level.time::<Plain>(case), name))
 }
 
 /// One transaction in so many is aborted, in the journal of which a part is dropped.

@@ -1,6 +1,7 @@
 //! The benchmark: what the library's calls take, beside plain Rust, SQLite and LMDB. `host/bench` builds and runs it.
 
 mod agree;
+mod cases;
 mod fixture;
 mod journal_calls;
 #[path = "../src/library.rs"]
@@ -22,7 +23,7 @@ use limits::{BASE_ROWS, JOURNAL_RECORDS, VERSIONS};
 use report::Pair;
 use std::path::Path;
 use stores::{Plain, Proved};
-use workload::{Engine, Journal, Map};
+use workload::Engine;
 
 /// The sizes whose doubling is measured.
 const RECORDS: [usize; 4] = [JOURNAL_RECORDS / 8, JOURNAL_RECORDS / 4, JOURNAL_RECORDS / 2, JOURNAL_RECORDS];
@@ -39,12 +40,12 @@ fn short() -> String {
 /// The engines whose packages are installed; of the others it is said that they are not.
 fn engines(_folder: &Path) -> Vec<Box<dyn Engine>> {
     vec![
-        Box::new(Journal::<Plain>::new("plain Rust, journal", JOURNAL_RECORDS)),
-        Box::new(Journal::<Proved>::new("library, journal", JOURNAL_RECORDS)),
-        Box::new(Journal::<Proved>::new("library, journal, kept short", SHORT_RECORDS)),
-        Box::new(Map::<Plain>::new("plain Rust, map", VERSIONS)),
-        Box::new(Map::<Proved>::new("library, map", VERSIONS)),
-        Box::new(Map::<Proved>::new("library, map, kept short", SHORT_VERSIONS)),
+        Box::new(workload::journal::<Plain>("plain Rust, journal", JOURNAL_RECORDS)),
+        Box::new(workload::journal::<Proved>("library, journal", JOURNAL_RECORDS)),
+        Box::new(workload::journal::<Proved>("library, journal, kept short", SHORT_RECORDS)),
+        Box::new(workload::map::<Plain>("plain Rust, map", VERSIONS)),
+        Box::new(workload::map::<Proved>("library, map", VERSIONS)),
+        Box::new(workload::map::<Proved>("library, map, kept short", SHORT_VERSIONS)),
         #[cfg(sqlite)]
         Box::new(sqlite::Sqlite::new()),
         #[cfg(lmdb)]

@@ -1,5 +1,6 @@
 //! The map store's calls, timed one by one.
 
+use crate::cases::{self, pair, Case, ASSIGNED, COMPARED, COPIES_EMPTY, COPIES_FILLED};
 use crate::fixture::{register, MapStore, RAISE, TRANSACTION_VERSIONS};
 use crate::library::{Answer, MapHead};
 use crate::limits::LIST_ROWS;
@@ -8,60 +9,15 @@ use crate::stores::{MapCalls, MapLent, Plain, Proved};
 use crate::timing;
 use std::hint::black_box;
 
-/// A call that is timed.
-#[derive(Clone, Copy, Debug)]
-enum Case {
-    Begin,
-    Assign,
-    Add,
-    Read,
-    Commit,
-    CommitOld,
-    Abort,
-    Lookup,
-    List,
-    Checkpoint,
-    CheckpointHalf,
-}
-
-/// The calls in the order of the tables, with their names there.
-const CASES: [(Case, &str); 11] = [
-    (Case::Begin, "begin"),
-    (Case::Assign, "update, assign"),
-    (Case::Add, "update, add"),
-    (Case::Read, "read"),
-    (Case::Commit, "commit"),
-    (Case::CommitOld, "commit, snapshot at low"),
-    (Case::Abort, "abort"),
-    (Case::Lookup, "lookup at last"),
-    (Case::List, "list at last"),
-    (Case::Checkpoint, "checkpoint at last"),
-    (Case::CheckpointHalf, "checkpoint halfway"),
-];
+type Outcome = cases::Outcome<Box<MapHead>, MapLent>;
+type Timed = cases::Timed<Box<MapHead>, MapLent>;
 
 pub fn names() -> Vec<&'static str> {
-    CASES.iter().map(|case| case.1).collect()
+    cases::names(cases::map())
 }
 
-/// How many calls with different keys are compared before any is timed.
-const COMPARED: usize = 4;
-/// What an assign gives.
-const ASSIGNED: u32 = 7;
 /// How many heads one sample of a writing call works on: as many as fit beside the processor.
 const HEADS: usize = 16;
-/// How many copies of a store one sample of a checkpoint works on.
-const COPIES_EMPTY: usize = 64;
-const COPIES_FILLED: usize = 1;
-
-/// What a call answers and leaves, which must be the same for both.
-#[derive(PartialEq, Debug)]
-struct Outcome {
-    answers: Vec<Answer>,
-    head: Box<MapHead>,
-    lent: MapLent,
-}
-
-type Timed = (f64, Outcome);
 
 /// The answers to the first calls, each with the old head, and what the last of them leaves.
 fn outcome(s: &MapStore, call: &mut impl FnMut(&mut MapHead, &mut MapLent, usize) -> Answer) -> Outcome {
@@ -123,8 +79,7 @@ fn on_copies(s: &MapStore, mut call: impl FnMut(&mut MapHead, &mut MapLent) -> A
 fn listing<C: MapCalls>(s: &MapStore) -> Timed {
     let (mut keys, mut values) = (vec![0; LIST_ROWS], vec![0; LIST_ROWS]);
     let (ns, mut outcome) = reading(s, |h, l, _| C::list(h, l, s.head.last, &mut keys, &mut values));
-    let rows = keys.iter().zip(&values);
-    outcome.answers.extend(rows.map(|(&key, &value)| Answer { number: 0, present: key, value: u64::from(value) }));
+    outcome.answers.extend(cases::rows(&keys, &values));
     (ns, outcome)
 }
 
@@ -180,21 +135,13 @@ impl Level {
             Case::List => listing::<C>(&s),
             Case::Checkpoint => on_copies(&s, |h, l| C::checkpoint(h, l, last)),
             Case::CheckpointHalf => on_copies(&s, |h, l| C::checkpoint(h, l, last / 2)),
+            Case::Recover => unreachable!("the map store has no recover"),
         }
     }
-}
-
-/// The times of both, once they answered and left the same.
-fn pair(proved: Timed, plain: Timed, what: &str) -> Pair {
-    assert_eq!(proved.1, plain.1, "library and plain Rust differ: {what}");
-    Pair { proved: proved.0, plain: plain.0 }
 }
 
 /// The times of all calls on a store with so many versions of so many registers.
 pub fn times(registers: usize, versions: usize) -> Vec<Pair> {
     let level = Level::new(registers, versions);
-    let one = |&(case, name): &(Case, &str)| pair(level.time::<Proved>(case), level.time::<Plain>(case), name);
-    let round = || CASES.iter().map(one).collect::<Vec<Pair>>();
-    let better = |a: Vec<Pair>, b: Vec<Pair>| a.into_iter().zip(b).map(|(a, b)| a.min(b)).collect();
-    (1..timing::ROUNDS).map(|_| round()).fold(round(), better)
+    cases::best(cases::map(), |case, name| pair(level.time::<Proved>(case), level.time::<Plain>(case), name))
 }

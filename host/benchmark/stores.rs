@@ -34,34 +34,34 @@ impl MapLent {
     }
 }
 
-/// The journal store's calls. The head is replaced by the one returned, as a host does.
-pub trait JournalCalls {
-    fn empty() -> Head;
-    fn begin(h: &mut Head, l: &mut JournalLent, t: u64) -> Answer;
-    fn assign(h: &mut Head, l: &mut JournalLent, n: u32, k: u32, v: u32) -> Answer;
-    fn add(h: &mut Head, l: &mut JournalLent, n: u32, k: u32, d: u32) -> Answer;
-    fn abort(h: &mut Head, l: &mut JournalLent, n: u32) -> Answer;
-    fn commit(h: &mut Head, l: &mut JournalLent, n: u32, t: u64) -> Answer;
-    fn read(h: &Head, l: &JournalLent, n: u32, k: u32) -> Answer;
-    fn lookup(h: &Head, l: &JournalLent, k: u32, t: u64) -> Answer;
-    fn list(h: &Head, l: &JournalLent, t: u64, keys: &mut [u32], values: &mut [u32]) -> Answer;
-    fn checkpoint(h: &mut Head, l: &mut JournalLent, t: u64) -> Answer;
-    fn recover(h: &mut Head, l: &mut JournalLent, survived: usize) -> Answer;
+/// The calls of a store with such a head and such lent cells. The head is replaced by the one returned, as a host does.
+pub trait Calls<H, L> {
+    fn empty() -> H;
+    fn begin(h: &mut H, l: &mut L, t: u64) -> Answer;
+    fn assign(h: &mut H, l: &mut L, n: u32, k: u32, v: u32) -> Answer;
+    fn add(h: &mut H, l: &mut L, n: u32, k: u32, d: u32) -> Answer;
+    fn abort(h: &mut H, l: &mut L, n: u32) -> Answer;
+    fn commit(h: &mut H, l: &mut L, n: u32, t: u64) -> Answer;
+    fn read(h: &H, l: &L, n: u32, k: u32) -> Answer;
+    fn lookup(h: &H, l: &L, k: u32, t: u64) -> Answer;
+    fn list(h: &H, l: &L, t: u64, keys: &mut [u32], values: &mut [u32]) -> Answer;
+    fn checkpoint(h: &mut H, l: &mut L, t: u64) -> Answer;
+
+    /// The map store has none: a lookup stands for it.
+    fn recover(h: &mut H, l: &mut L, _survived: usize) -> Answer {
+        Self::lookup(h, l, 1, 0)
+    }
 }
 
+/// The journal store's calls.
+pub trait JournalCalls: Calls<Head, JournalLent> {}
+
+impl<C: Calls<Head, JournalLent>> JournalCalls for C {}
+
 /// The map store's calls.
-pub trait MapCalls {
-    fn empty() -> MapHead;
-    fn begin(h: &mut MapHead, l: &mut MapLent, t: u64) -> Answer;
-    fn assign(h: &mut MapHead, l: &mut MapLent, n: u32, k: u32, v: u32) -> Answer;
-    fn add(h: &mut MapHead, l: &mut MapLent, n: u32, k: u32, d: u32) -> Answer;
-    fn abort(h: &mut MapHead, l: &mut MapLent, n: u32) -> Answer;
-    fn commit(h: &mut MapHead, l: &mut MapLent, n: u32, t: u64) -> Answer;
-    fn read(h: &MapHead, l: &MapLent, n: u32, k: u32) -> Answer;
-    fn lookup(h: &MapHead, l: &MapLent, k: u32, t: u64) -> Answer;
-    fn list(h: &MapHead, l: &MapLent, t: u64, keys: &mut [u32], values: &mut [u32]) -> Answer;
-    fn checkpoint(h: &mut MapHead, l: &mut MapLent, t: u64) -> Answer;
-}
+pub trait MapCalls: Calls<MapHead, MapLent> {}
+
+impl<C: Calls<MapHead, MapLent>> MapCalls for C {}
 
 /// The proved library.
 pub struct Proved;
@@ -79,7 +79,7 @@ fn replace_map(h: &mut MapHead, outcome: library::MapOutcome) -> Answer {
     outcome.answer
 }
 
-impl JournalCalls for Proved {
+impl Calls<Head, JournalLent> for Proved {
     fn empty() -> Head {
         library::journal::empty()
     }
@@ -125,7 +125,7 @@ impl JournalCalls for Proved {
     }
 }
 
-impl JournalCalls for Plain {
+impl Calls<Head, JournalLent> for Plain {
     fn empty() -> Head {
         Head { low: 0, floor: 1, base_rows: 0, used: 0 }
     }
@@ -171,7 +171,7 @@ impl JournalCalls for Plain {
     }
 }
 
-impl MapCalls for Proved {
+impl Calls<MapHead, MapLent> for Proved {
     fn empty() -> MapHead {
         library::map::empty()
     }
@@ -213,7 +213,7 @@ impl MapCalls for Proved {
     }
 }
 
-impl MapCalls for Plain {
+impl Calls<MapHead, MapLent> for Plain {
     fn empty() -> MapHead {
         plain::map::EMPTY
     }

@@ -5,7 +5,7 @@ use crate::fixture::{register, RAISE, TRANSACTION_RECORDS, TRANSACTION_VERSIONS}
 use crate::library::{Answer, Head, MapHead};
 use crate::limits::{ACCEPTED, BASE_ROWS, KEYS};
 use crate::report::NS_A_MICROSECOND;
-use crate::stores::{JournalCalls, JournalLent, MapCalls, MapLent};
+use crate::stores::{Calls, JournalCalls, JournalLent, MapCalls, MapLent};
 use crate::table::{figure, ratio, Table};
 use crate::timing::Watch;
 use std::marker::PhantomData;
@@ -49,21 +49,20 @@ fn taken(answer: Answer) -> u64 {
     answer.value
 }
 
-/// A journal store as an engine.
-pub struct Journal<C> {
+/// A journal store or a map store as an engine.
+pub struct Store<C, H, L> {
     name: &'static str,
     cycle: usize,
-    head: Head,
-    lent: JournalLent,
+    head: H,
+    lent: L,
     last: u64,
     calls: PhantomData<C>,
 }
 
-impl<C: JournalCalls> Journal<C> {
-    /// Each register has its own key as value, in the base. A checkpoint is taken when so many records are used.
-    pub fn new(name: &'static str, records: usize) -> Self {
-        let (cycle, lent) = (records / TRANSACTION_RECORDS, JournalLent::whole());
-        let mut s = Journal { name, cycle, head: C::empty(), lent, last: 0, calls: PhantomData };
+impl<H, L, C: Calls<H, L>> Store<C, H, L> {
+    /// Each register has its own key as value. A checkpoint is taken after so many transactions.
+    fn new(name: &'static str, cycle: usize, lent: L) -> Self {
+        let mut s = Store { name, cycle, head: C::empty(), lent, last: 0, calls: PhantomData };
         let keys: Vec<u32> = (1..=REGISTERS as u32).collect();
         for part in keys.chunks(KEYS) {
             let n = taken(C::begin(&mut s.head, &mut s.lent, s.last)) as u32;
@@ -73,12 +72,23 @@ impl<C: JournalCalls> Journal<C> {
             s.last += 1;
             taken(C::commit(&mut s.head, &mut s.lent, n, s.last));
         }
-        s.checkpoint();
         s
     }
 }
 
-impl<C: JournalCalls> Engine for Journal<C> {
+/// A journal store with its registers in the base. A checkpoint is taken when so many records are used.
+pub fn journal<C: JournalCalls>(name: &'static str, records: usize) -> Store<C, Head, JournalLent> {
+    let mut s = Store::new(name, records / TRANSACTION_RECORDS, JournalLent::whole());
+    s.checkpoint();
+    s
+}
+
+/// A map store with one version of each register. A checkpoint is taken when so many versions are used.
+pub fn map<C: MapCalls>(name: &'static str, versions: usize) -> Store<C, MapHead, MapLent> {
+    Store::new(name, (versions - REGISTERS) / TRANSACTION_VERSIONS, MapLent::whole())
+}
+
+impl<H, L, C: Calls<H, L>> Engine for Store<C, H, L> {
     fn name(&self) -> &str {
         self.name
     }
@@ -106,65 +116,6 @@ impl<C: JournalCalls> Engine for Journal<C> {
 
     fn list(&mut self, keys: &mut [u32], values: &mut [u32]) -> usize {
         taken(C::list(&self.head, &self.lent, self.last, keys, values)) as usize
-    }
-}
-
-/// A map store as an engine.
-pub struct Map<C> {
-    name: &'static str,
-    cycle: usize,
-    head: MapHead,
-    lent: MapLent,
-    calls: PhantomData<C>,
-}
-
-impl<C: MapCalls> Map<C> {
-    /// Each register has its own key as value, in one version. A checkpoint is taken when so many versions are used.
-    pub fn new(name: &'static str, versions: usize) -> Self {
-        let (cycle, lent) = ((versions - REGISTERS) / TRANSACTION_VERSIONS, MapLent::whole());
-        let mut s = Map { name, cycle, head: C::empty(), lent, calls: PhantomData };
-        let keys: Vec<u32> = (1..=REGISTERS as u32).collect();
-        for part in keys.chunks(KEYS) {
-            let last = s.head.last;
-            let n = taken(C::begin(&mut s.head, &mut s.lent, last)) as u32;
-            for &k in part {
-                taken(C::assign(&mut s.head, &mut s.lent, n, k, k));
-            }
-            taken(C::commit(&mut s.head, &mut s.lent, n, last + 1));
-        }
-        s
-    }
-}
-
-impl<C: MapCalls> Engine for Map<C> {
-    fn name(&self) -> &str {
-        self.name
-    }
-
-    fn cycle(&self) -> Option<usize> {
-        Some(self.cycle)
-    }
-
-    fn transact(&mut self, assign: (u32, u32), add: (u32, u32)) {
-        let (h, l) = (&mut self.head, &mut self.lent);
-        let last = h.last;
-        let n = taken(C::begin(h, l, last)) as u32;
-        taken(C::assign(h, l, n, assign.0, assign.1));
-        taken(C::add(h, l, n, add.0, add.1));
-        taken(C::commit(h, l, n, last + 1));
-    }
-
-    fn checkpoint(&mut self) {
-        let last = self.head.last;
-        taken(C::checkpoint(&mut self.head, &mut self.lent, last));
-    }
-
-    fn lookup(&mut self, k: u32) -> u32 {
-        taken(C::lookup(&self.head, &self.lent, k, self.head.last)) as u32
-    }
-
-    fn list(&mut self, keys: &mut [u32], values: &mut [u32]) -> usize {
-        taken(C::list(&self.head, &self.lent, self.head.last, keys, values)) as usize
     }
 }
 
