@@ -1,8 +1,8 @@
 -- No second answer satisfies a contract. Assumes nothing.
-use mathlib.Core.List.{List}
+use mathlib.Core.List.{List, _++_}
 use mathlib.Core.Path.{_≡_, sym, _∙_}
 use Prim.Native.Nat.{ℕ}
-use lib.ListN.{take}
+use lib.ListN.{take, drop}
 use Rattle.column.specs.declared.Found.{Found}
 use Rattle.column.specs.declared.Least.{Least}
 use Rattle.column.specs.Column.{firstRow, leastAbove}
@@ -13,3 +13,6 @@ module _ (column : List ℕ) (count : ℕ) where
 
   pub least-above-unique : (bound : ℕ) {r s : Least} → r ≡ leastAbove bound (take count column) → s ≡ leastAbove bound (take count column) → r ≡ s
   least-above-unique bound p q = p ∙ sym q
+
+pub copy-unique : (from : List ℕ) (count : ℕ) (to : List ℕ) {a b : List ℕ} → a ≡ take count from ++ drop count to → b ≡ take count from ++ drop count to → a ≡ b
+copy-unique from count to p q = p ∙ sym q

@@ -1,8 +1,6 @@
 // Checkpoint: the base becomes the list at a time, and the journal keeps what is still needed. Refusals 1, 4, 5, 9, 12.
 ghost use mathlib.Core.Path.{_≡_};
-ghost use mathlib.Core.List.{_++_};
-ghost use Prim.Native.Nat.{_≤_};
-ghost use lib.ListN.{length, take, drop};
+ghost use lib.ListN.{length};
 ghost use Rattle.rules.specs.Lists.{listAt};
 ghost use Rattle.rules.specs.Columns.{firstRows};
 ghost use Rattle.record.specs.Bytes.{newest};
@@ -50,18 +48,6 @@ fn decide(h: Head, keys: &[u32], values: &[u32], journal: &[u8], t: u64) -> Done
     Done::Accepted
 }
 
-// The first rows of a column, as many as the count says, from another column.
-fn copy(from: &[u32], count: usize, to: &mut [u32])
-    requires { ⌜ (count ≤ length (now from)) × (count ≤ length (now to)) ⌝ }
-    ensures { λ _. ⌜ now (to .exit) ≡ take count (now (from .entry)) ++ drop count (now (to .entry)) ⌝ }
-{
-    let mut i = 0;
-    while i < count {
-        to[i] = from[i];
-        i += 1;
-    }
-}
-
 // The base becomes the list at t; how many rows it has then. The list is made aside, since it is read from the base.
 fn settle(
     keys: &mut [u32],
@@ -87,8 +73,8 @@ fn settle(
         &mut listed,
         &mut contents,
     );
-    copy(&listed, count, keys);
-    copy(&contents, count, values);
+    column::copy(&listed, count, keys);
+    column::copy(&contents, count, values);
     count
 }
 
