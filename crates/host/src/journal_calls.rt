@@ -166,7 +166,7 @@ pub extern "C" fn registers_journal_list(
 ) -> Answer
     ensures { λ r. ⌜ Answers (λ a. ListedBy h (now (keys .entry)) (now (values .entry)) (now (journal .entry)) t (now (listed .entry)) (now (contents .entry)) a (now (listed .exit)) (now (contents .exit))) r ⌝ }
 {
-    crate::listed(journal_store::list::list(h, keys, values, journal, t, listed, contents))
+    crate::listed(journal_list::list(h, keys, values, journal, t, listed, contents))
 }
 
 // The base becomes the list at t, and the journal keeps what is still needed. Refusals 1, 4, 5, 9, 12.
@@ -180,7 +180,7 @@ pub extern "C" fn registers_journal_checkpoint(
 ) -> JournalOutcome
     ensures { λ r. ⌜ JournalReturns (λ a head. Checkpointed t h (now (keys .entry)) (now (values .entry)) (now (journal .entry)) a head (now (keys .exit)) (now (values .exit)) (now (journal .exit))) r ⌝ }
 {
-    ended(journal_store::checkpoint::checkpoint(h, keys, values, journal, t))
+    ended(journal_checkpoint::checkpoint(h, keys, values, journal, t))
 }
 
 // Takes the bytes that survived a restart for the journal; 13 comes with the place of the first record that fails. Refusals 1, 13.

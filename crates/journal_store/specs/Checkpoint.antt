@@ -2,32 +2,25 @@
 use mathlib.Core.Path.{_≡_, refl, sym, ap, _∙_}
 use mathlib.Core.Bool.{Bool, true, false, cond}
 use mathlib.Core.List.{List, _++_}
-use Prim.Native.Nat.{ℕ, _*_, _<_, _≤_, min}
-use native.Mathlib.Nat.{min-le-left, min-le-right}
-use native.Mathlib.Omega.{arith}
+use Prim.Native.Nat.{ℕ, _*_, _<_, _≤_}
 use lib.Dec.{eqb, ltb}
 use lib.ListN.{length, drop}
-use borrow.Author.Tests.{lt-ltb, le-ltb, le-leb, lt-leb, eqb-true}
+use borrow.Author.Tests.{lt-ltb, le-ltb, le-leb, lt-leb}
 use Rattle.rules.specs.declared.Value.the-variants.{Absent}
 use Rattle.rules.specs.Kinds.{recordBytes}
 use Rattle.rules.specs.Checkpoints.{held, kept}
-use Rattle.rules.specs.Passed.{fitting}
 use Rattle.rules.specs.Values.{Row}
 use Rattle.rules.specs.Lists.{rowKeys}
-use Rattle.rules.specs.Columns.{rowValues}
-use Rattle.rules.specs.Calls.{Store, lastOf, nextOf, checkpointRefusal, checkpointAnswer}
-use Rattle.answer.specs.declared.Refusal.the-variants.{BadShape}
-use Rattle.answer.specs.Reply.{Reply, refused, told, after}
-use Rattle.answer.specs.Laws.{after-refused}
-use Rattle.values.specs.Lists.{Filled}
+use Rattle.rules.specs.Columns.{rowValues, Filled}
+use Rattle.rules.specs.Calls.{Store, lastOf, nextOf, withRoom, checkpointRefusal, checkpointAnswer}
+use Rattle.answer.specs.declared.Refusal.{Refusal}
+use Rattle.answer.specs.declared.Refusal.the-variants.{BadShape, NoRoom}
+use Rattle.answer.specs.Reply.{Reply, numberOf, placeOf, refused, accepted, told, after}
+use Rattle.answer.specs.Laws.{refused-some, after-refused}
 use Rattle.journal.specs.Compact.{compacted, Compacted}
 use Rattle.journal_store.specs.declared.Head.{Head}
 use Rattle.journal_store.specs.Shape.{isShaped, rowRoom, meaning}
 use Rattle.journal_store.specs.List.{listOf}
-
--- what a store of good shape answers where so many base rows are lent
-abbrev pub checkpointDecided : ℕ → ℕ → Store → Reply
-checkpointDecided room t s = told (checkpointAnswer room t s) Absent
 
 -- the number that checkpoint gets
 abbrev pub checkpointNumber : ℕ → Head → List ℕ → List ℕ → List ℕ → ℕ
@@ -60,81 +53,81 @@ pub record Checkpointed (t : ℕ) (h : Head) (keys values j : List ℕ) (a : Rep
   pub cells :
       exit ≡ after (checkpointNumber t h keys values j) (compacted (kept t (meaning h keys values j .records)) (h .journal .used * recordBytes) j) j
 
--- the rows of a list fit a base, and both its columns
-pub record HasRoom (rows : List Row) (keys values : List ℕ) : Type 0 where
-  pub limit : length rows ≤ 512
-  pub in-keys : length rows ≤ length keys
-  pub in-values : length rows ≤ length values
-
--- how many rows, and the columns with the rows at their front
-pub record Settled (rows : List Row) (keys values : List ℕ) (n : ℕ) (keys' values' : List ℕ) : Type 0 where
+-- how many rows a list has; the columns with them at their front where they fit, else as they were
+pub record Settled (room : ℕ) (rows : List Row) (keys values : List ℕ) (n : ℕ) (keys' values' : List ℕ) : Type 0 where
   pub count : n ≡ length rows
-  pub filled : Filled rows keys values keys' values'
+  pub filled : length rows ≤ room → Filled rows keys values keys' values'
+  pub left : room < length rows → (keys' ≡ keys) × (values' ≡ values)
 
--- the ways out of the tests
-module _ (room t : ℕ) (s : Store) where
-  say : (n : ℕ) → checkpointAnswer room t s ≡ n → told n Absent ≡ checkpointDecided room t s
-  say n e = sym (ap (λ (m : ℕ). told m Absent) e)
-
-  pub checkpoint-old : t < s .low → told 4 Absent ≡ checkpointDecided room t s
-  checkpoint-old a = say 4 (rw (lt-ltb t (s .low) a))
+-- the ways out of the tests before the room
+module _ (t : ℕ) (s : Store) where
+  pub checkpoint-old : t < s .low → told 4 Absent ≡ told (checkpointRefusal t s) Absent
+  checkpoint-old a = rw (lt-ltb t (s .low) a)
 
   module _ (a : s .low ≤ t) (i : Bool) (e : i ≡ ltb (lastOf s) t) where
-    pub checkpoint-future : i ≡ true → told 5 Absent ≡ checkpointDecided room t s
-    checkpoint-future b = say 5 (rw (le-ltb t (s .low) a, sym e ∙ b))
+    pub checkpoint-future : i ≡ true → told 5 Absent ≡ told (checkpointRefusal t s) Absent
+    checkpoint-future b = rw (le-ltb t (s .low) a, sym e ∙ b)
 
     module _ (b : i ≡ false) (d : Bool) (g : d ≡ held t (s .records)) where
-      pub checkpoint-held : d ≡ true → told 9 Absent ≡ checkpointDecided room t s
-      checkpoint-held f = say 9 (rw (le-ltb t (s .low) a, sym e ∙ b, sym g ∙ f))
+      pub checkpoint-held : d ≡ true → told 9 Absent ≡ told (checkpointRefusal t s) Absent
+      checkpoint-held f = rw (le-ltb t (s .low) a, sym e ∙ b, sym g ∙ f)
 
-      module _ (f : d ≡ false) (n : ℕ) (q : n ≡ length (listOf t s)) where
-        pub checkpoint-room : room < n → told 12 Absent ≡ checkpointDecided room t s
-        checkpoint-room h = say 12 (rw (le-ltb t (s .low) a, sym e ∙ b, sym g ∙ f, ← q, lt-leb n room h))
-
-        pub checkpoint-done : n ≤ room → told 0 Absent ≡ checkpointDecided room t s
-        checkpoint-done h = say 0 (rw (le-ltb t (s .low) a, sym e ∙ b, sym g ∙ f, ← q, le-leb n room h))
+      pub checkpoint-clear : d ≡ false → told 0 Absent ≡ told (checkpointRefusal t s) Absent
+      checkpoint-clear f = rw (le-ltb t (s .low) a, sym e ∙ b, sym g ∙ f)
 
 module _ (t : ℕ) (h : Head) (keys values j : List ℕ) where
-  -- a store of bad shape: refused, and nothing changes
+  -- a call that gets a refusal's number changes nothing
+  unchanged : (x : Refusal) → placeOf x ≡ Absent → checkpointNumber t h keys values j ≡ numberOf x
+      → Checkpointed t h keys values j (refused x) h keys values j
+  unchanged x p q =
+      let s = meaning h keys values j in
+      let n = checkpointNumber t h keys values j in
+      record {
+        reply = rw (q, p, refused-some x);
+        headed = after-refused x n (checkpointHead t s) h q;
+        keys-column = after-refused x n (rowKeys (listOf t s) ++ drop (length (listOf t s)) keys) keys q;
+        values-column = after-refused x n (rowValues (listOf t s) ++ drop (length (listOf t s)) values) values q;
+        cells = after-refused x n (compacted (kept t (s .records)) (h .journal .used * recordBytes) j) j q;
+      }
+
+  -- a store of bad shape
   pub checkpoint-bad : isShaped h (length keys) (length values) (length j) ≡ false
       → Checkpointed t h keys values j (refused BadShape) h keys values j
   checkpoint-bad e =
-      let s = meaning h keys values j in
-      let q : checkpointNumber t h keys values j ≡ 1 = ap (λ (b : Bool). cond b (checkpointAnswer (rowRoom (length keys)) t s) 1) e in
-      record {
-        reply = sym (ap (λ (n : ℕ). told n Absent) q);
-        headed = after-refused BadShape (checkpointNumber t h keys values j) (checkpointHead t s) h q;
-        keys-column = after-refused BadShape (checkpointNumber t h keys values j) (rowKeys (listOf t s) ++ drop (length (listOf t s)) keys) keys q;
-        values-column = after-refused BadShape (checkpointNumber t h keys values j) (rowValues (listOf t s) ++ drop (length (listOf t s)) values) values q;
-        cells = after-refused BadShape (checkpointNumber t h keys values j) (compacted (kept t (s .records)) (h .journal .used * recordBytes) j) j q;
-      }
+      unchanged BadShape refl (ap (λ (b : Bool). cond b (checkpointAnswer (rowRoom (length keys)) t (meaning h keys values j)) 1) e)
 
   module _ (shaped : isShaped h (length keys) (length values) (length j) ≡ true) (a : Reply)
-      (d : a ≡ checkpointDecided (rowRoom (length keys)) t (meaning h keys values j)) where
-    counted : checkpointNumber t h keys values j ≡ a .number
-    counted =
-        ap (λ (b : Bool). cond b (checkpointAnswer (rowRoom (length keys)) t (meaning h keys values j)) 1) shaped ∙ sym (ap (λ (r : Reply). r .number) d)
+      (d : a ≡ told (checkpointRefusal t (meaning h keys values j)) Absent) where
+    turned : checkpointRefusal t (meaning h keys values j) ≡ a .number
+    turned = sym (ap (λ (r : Reply). r .number) d)
 
-    replied : a ≡ told (checkpointNumber t h keys values j) Absent
-    replied = d ∙ ap (λ (n : ℕ). told n Absent) (sym (ap (λ (r : Reply). r .number) d) ∙ sym counted)
+    answered : checkpointNumber t h keys values j ≡ withRoom (a .number) (length (listOf t (meaning h keys values j))) (rowRoom (length keys))
+    answered =
+        ap (λ (b : Bool). cond b (checkpointAnswer (rowRoom (length keys)) t (meaning h keys values j)) 1) shaped
+        ∙ ap (λ (n : ℕ). withRoom n (length (listOf t (meaning h keys values j))) (rowRoom (length keys))) turned
 
-    -- an accepted checkpoint has room for its rows
-    pub checkpoint-fits : eqb (a .number) 0 ≡ true → (length (listOf t (meaning h keys values j)) ≤ 512) × (length (listOf t (meaning h keys values j)) ≤ length keys)
-    checkpoint-fits e =
-        let l = fitting (checkpointRefusal t (meaning h keys values j)) (length (listOf t (meaning h keys values j))) (rowRoom (length keys))
-        (sym (ap (λ (r : Reply). r .number) d) ∙ eqb-true (a .number) 0 e) .1
-        in
-        (omega (arith, min-le-left 512 (length keys)), omega (arith, min-le-right 512 (length keys)))
-
-    pub checkpoint-written : (head : Head) (keys' values' exit : List ℕ) → eqb (a .number) 0 ≡ true
-        → head ≡ checkpointHead t (meaning h keys values j) → Filled (listOf t (meaning h keys values j)) keys values keys' values'
-        → exit ≡ compacted (kept t (meaning h keys values j .records)) (h .journal .used * recordBytes) j
-        → Checkpointed t h keys values j a head keys' values' exit
-    checkpoint-written head keys' values' exit e f g i =
-        let z : eqb (checkpointNumber t h keys values j) 0 ≡ true = ap (λ (n : ℕ). eqb n 0) counted ∙ e in
-        record { reply = replied; headed = rw z f; keys-column = rw z (g .keys-column); values-column = rw z (g .values-column); cells = rw z i }
-
+    -- a test before the room refused
     pub checkpoint-refused : eqb (a .number) 0 ≡ false → Checkpointed t h keys values j a h keys values j
     checkpoint-refused e =
-        let z : eqb (checkpointNumber t h keys values j) 0 ≡ false = ap (λ (n : ℕ). eqb n 0) counted ∙ e in
-        record { reply = replied; headed = rw z; keys-column = rw z; values-column = rw z; cells = rw z }
+        let q : checkpointNumber t h keys values j ≡ a .number = rw e at answered in
+        let z : eqb (checkpointNumber t h keys values j) 0 ≡ false = rw q e in
+        record {
+          reply = d ∙ ap (λ (n : ℕ). told n Absent) (turned ∙ sym q);
+          headed = rw z;
+          keys-column = rw z;
+          values-column = rw z;
+          cells = rw z;
+        }
+
+    -- none did, and the list has n rows
+    module _ (e : eqb (a .number) 0 ≡ true) (n : ℕ) (q : n ≡ length (listOf t (meaning h keys values j))) where
+      pub checkpoint-full : rowRoom (length keys) < n → Checkpointed t h keys values j (refused NoRoom) h keys values j
+      checkpoint-full l = unchanged NoRoom refl (answered ∙ rw (e, ← q, lt-leb n (rowRoom (length keys)) l))
+
+      pub checkpoint-written : (head : Head) (keys' values' exit : List ℕ) → n ≤ rowRoom (length keys)
+          → head ≡ checkpointHead t (meaning h keys values j) → Filled (listOf t (meaning h keys values j)) keys values keys' values'
+          → exit ≡ compacted (kept t (meaning h keys values j .records)) (h .journal .used * recordBytes) j
+          → Checkpointed t h keys values j (accepted Absent) head keys' values' exit
+      checkpoint-written head keys' values' exit l f g i =
+          let z : checkpointNumber t h keys values j ≡ 0 = answered ∙ rw (e, ← q, le-leb n (rowRoom (length keys)) l) in
+          record { reply = rw z; headed = rw z f; keys-column = rw z (g .keys-column); values-column = rw z (g .values-column); cells = rw z i }

@@ -12,14 +12,13 @@ use Rattle.rules.specs.Bools.{split, and-left, and-right}
 use Rattle.rules.specs.Passed.{fitting}
 use Rattle.rules.specs.Values.{Row}
 use Rattle.rules.specs.Lists.{rowKeys, listAt}
-use Rattle.rules.specs.Columns.{rowValues}
+use Rattle.rules.specs.Columns.{rowValues, Filled}
 use Rattle.rules.specs.Calls.{Store, lastOf, listRefusal, listAnswer}
 use Rattle.answer.specs.declared.Refusal.the-variants.{BadShape}
 use Rattle.answer.specs.Reply.{Reply, refused, accepted, told, after}
 use Rattle.answer.specs.Laws.{after-refused}
-use Rattle.values.specs.Lists.{Filled}
 use Rattle.journal_store.specs.declared.Head.{Head}
-use Rattle.journal_store.specs.Shape.{isShaped, meaning}
+use Rattle.journal_store.specs.Shape.{isShaped, meaning, Shaped, shape}
 
 -- the list at t of what the store means
 abbrev pub listOf : ℕ → Store → List Row
@@ -49,6 +48,14 @@ pub record ListedBy (h : Head) (keys values j : List ℕ) (t : ℕ) (listed cont
       contents'
       ≡ after (listNumber h keys values j t (length listed) (length contents))
       (rowValues (listOf t (meaning h keys values j)) ++ drop (length (listOf t (meaning h keys values j))) contents) contents
+
+-- what a good shape says
+module _ (h : Head) (keys values bytes listed contents : ℕ) (e : isListShaped h keys values bytes listed contents ≡ true) where
+  pub list-shape : Shaped h keys values bytes
+  list-shape = shape h keys values bytes (and-right (eqb listed contents) (isShaped h keys values bytes) e)
+
+  pub list-paired : listed ≡ contents
+  list-paired = eqb-true listed contents (and-left (eqb listed contents) (isShaped h keys values bytes) e)
 
 -- the ways out of the tests
 module _ (room t : ℕ) (s : Store) where

@@ -1,5 +1,6 @@
 -- No second answer satisfies the contract of a public function of this crate: not another answer, head or cell. Assumes nothing.
 use mathlib.Core.Path.{_≡_, sym, ap, _∙_}
+use mathlib.Core.Bool.{Bool}
 use mathlib.Core.List.{List}
 use Prim.Native.Nat.{ℕ}
 use Rattle.rules.specs.declared.Effect.{Effect}
@@ -13,12 +14,15 @@ use Rattle.answer.specs.Laws.{begun-only, got-only, done-only, listed-only}
 use Rattle.journal_store.specs.declared.Head.{Head}
 use Rattle.journal_store.specs.declared.Started.{Started}
 use Rattle.journal_store.specs.declared.Outcome.{Outcome}
-use Rattle.journal_store.specs.Shape.{emptyHead}
+use Rattle.journal_store.specs.Shape.{emptyHead, isShaped}
 use Rattle.journal_store.specs.Write.{Wrote}
 use Rattle.journal_store.specs.Read.{shapedReply, readDecided, lookupDecided}
 use Rattle.journal_store.specs.List.{ListedBy}
 use Rattle.journal_store.specs.Checkpoint.{Checkpointed}
 use Rattle.journal_store.specs.Recover.{Recovered}
+
+pub shaped-unique : (h : Head) (keys values bytes : ℕ) (a b : Bool) → a ≡ isShaped h keys values bytes → b ≡ isShaped h keys values bytes → a ≡ b
+shaped-unique h keys values bytes a b p q = p ∙ sym q
 
 pub empty-unique : (a b : Head) → a ≡ emptyHead → b ≡ emptyHead → a ≡ b
 empty-unique a b p q = p ∙ sym q

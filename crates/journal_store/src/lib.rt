@@ -15,9 +15,7 @@ use rules::Record;
 
 pub mod abort;
 pub mod begin;
-pub mod checkpoint;
 pub mod commit;
-pub mod list;
 pub mod lookup;
 pub mod read;
 pub mod recover;
@@ -74,7 +72,7 @@ pub struct Outcome {
 }
 
 // Section 6, number 1, the same for every call but recover: counts within limits and lent room, paired columns, floor not 0.
-fn shaped(h: Head, keys: usize, values: usize, bytes: usize) -> bool
+pub fn shaped(h: Head, keys: usize, values: usize, bytes: usize) -> bool
     ensures { λ r. ⌜ r ≡ isShaped h keys values bytes ⌝ }
 {
     let rows = h.base.rows;

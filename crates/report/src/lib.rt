@@ -106,7 +106,7 @@ fn listing(out: &mut [u8], h: Head, journal: &[u8]) -> usize
     let mut values = [0u32; Journal::RECORDS];
     let used = h.journal.used;
     let last = journal::times::last(journal, used, h.low);
-    let listed = journal_store::list::list(h, &none, &none, journal, last, &mut keys, &mut values);
+    let listed = journal_list::list(h, &none, &none, journal, last, &mut keys, &mut values);
     match listed {
         Listed::Refused(refusal) => refused(out, refusal),
         Listed::Rows(count) => {

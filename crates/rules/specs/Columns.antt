@@ -1,8 +1,8 @@
 -- Rows as they are lent: a column of keys and one of values. Assumes nothing.
 use mathlib.Core.Path.{_≡_, refl, ap, _∙_}
 use mathlib.Core.List.{List, [], _∷_, _++_}
-use Prim.Native.Nat.{ℕ}
-use lib.ListN.{length, take, length-append}
+use Prim.Native.Nat.{ℕ, _≤_}
+use lib.ListN.{length, take, drop, length-append}
 use lib.Seq.{take-at}
 use Rattle.rules.specs.Values.{Row}
 use Rattle.rules.specs.Lists.{rowKeys}
@@ -21,6 +21,16 @@ firstRows n keys values = rowsOf (take n keys) (take n values)
 abbrev pub rowValues : List Row → List ℕ
 rowValues [] = []
 rowValues (row ∷ rows) = row .value ∷ rowValues rows
+
+-- so many rows stand in both columns, of a base or of a list
+pub record Rows (keys values : List ℕ) (rows : ℕ) : Type 0 where
+  pub in-keys : rows ≤ length keys
+  pub in-values : rows ≤ length values
+
+-- two columns that start with some rows, and are as they were behind them
+pub record Filled (rows : List Row) (keys values keys' values' : List ℕ) : Type 0 where
+  pub keys-column : keys' ≡ rowKeys rows ++ drop (length rows) keys
+  pub values-column : values' ≡ rowValues rows ++ drop (length rows) values
 
 pub length-keys : (rows : List Row) → length (rowKeys rows) ≡ length rows
 length-keys [] = refl

@@ -1,11 +1,12 @@
 -- No second answer satisfies the contract of a public function of this crate. Assumes nothing.
 use mathlib.Core.Path.{_≡_, sym, _∙_}
-use mathlib.Core.Bool.{Bool}
+use mathlib.Core.Bool.{Bool, _&&_}
 use Prim.Native.Nat.{ℕ}
+use lib.Dec.{leb}
 use Rattle.rules.specs.declared.Record.{Record}
 use Rattle.rules.specs.declared.Value.{Value}
 use Rattle.rules.specs.declared.Effect.{Effect}
-use Rattle.rules.specs.Kinds.{isUpdate}
+use Rattle.rules.specs.Kinds.{isCommit, isUpdate}
 use Rattle.rules.specs.Effects.{orZero, applied, effectOf}
 
 pub or-zero-unique : (v : Value) (a b : ℕ) → a ≡ orZero v → b ≡ orZero v → a ≡ b
@@ -19,3 +20,6 @@ effect-unique r a b p q = p ∙ sym q
 
 pub is-update-unique : (r : Record) (a b : Bool) → a ≡ isUpdate r → b ≡ isUpdate r → a ≡ b
 is-update-unique r a b p q = p ∙ sym q
+
+pub settles-unique : (r : Record) (t : ℕ) (a b : Bool) → a ≡ (isCommit r && leb (r .time) t) → b ≡ (isCommit r && leb (r .time) t) → a ≡ b
+settles-unique r t a b p q = p ∙ sym q

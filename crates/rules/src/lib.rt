@@ -1,7 +1,9 @@
 // The kinds that everything speaks of: what a register holds, what an update does to it, and a record of the journal.
 // Section 3 of the rule book stands beside them in specs/, a file for each rule.
+ghost use mathlib.Core.Bool.{_&&_};
 ghost use mathlib.Core.Path.{_≡_};
-ghost use Rattle.rules.specs.Kinds.{isUpdate};
+ghost use lib.Dec.{leb};
+ghost use Rattle.rules.specs.Kinds.{isCommit, isUpdate};
 ghost use Rattle.rules.specs.Effects.{orZero, applied, effectOf};
 
 // What a register holds. 0 is an ordinary value and differs from absent.
@@ -80,6 +82,16 @@ impl Record {
             return Effect::Assign(self.value);
         }
         Effect::Add(self.value)
+    }
+
+    // Whether it is a commit at or before t: its transaction's effects stand then.
+    pub fn settles(self, t: u64) -> bool
+        ensures { λ r. ⌜ r ≡ (isCommit self && leb (self .time) t) ⌝ }
+    {
+        if self.kind != Record::COMMIT {
+            return false;
+        }
+        self.time <= t
     }
 }
 

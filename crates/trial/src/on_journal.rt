@@ -106,7 +106,7 @@ fn checkpoint(s: Store, t: u64) -> Store {
     let mut keys = s.keys;
     let mut values = s.values;
     let mut journal = s.journal;
-    let o = journal_store::checkpoint::checkpoint(s.head, &mut keys, &mut values, &mut journal, t);
+    let o = journal_checkpoint::checkpoint(s.head, &mut keys, &mut values, &mut journal, t);
     let a = o.answer;
     let head = o.head;
     let said = say::done(a);
@@ -162,7 +162,7 @@ fn rows(s: Store, t: u64) -> u64 {
     let journal = s.journal;
     let mut listed = [0u32; 64];
     let mut contents = [0u32; 64];
-    let a = journal_store::list::list(
+    let a = journal_list::list(
         s.head,
         &keys,
         &values,
@@ -181,7 +181,7 @@ fn list_said(s: Store, t: u64) -> u64 {
     let journal = s.journal;
     let mut listed = [0u32; 1];
     let mut contents = [0u32; 1];
-    let a = journal_store::list::list(
+    let a = journal_list::list(
         s.head,
         &keys,
         &values,
@@ -466,7 +466,7 @@ fn one_row(s: Store, t: u64) -> u64 {
     let mut keys = [0u32; 1];
     let mut values = [0u32; 1];
     let mut journal = s.journal;
-    let o = journal_store::checkpoint::checkpoint(s.head, &mut keys, &mut values, &mut journal, t);
+    let o = journal_checkpoint::checkpoint(s.head, &mut keys, &mut values, &mut journal, t);
     let a = o.answer;
     say::done(a)
 }

@@ -14,13 +14,9 @@ use Rattle.rules.specs.Kinds.{recordBytes}
 use Rattle.rules.specs.Effects.{applied, effect, effects}
 use Rattle.rules.specs.Transactions.{of}
 use Rattle.rules.specs.Values.{Row, valueAt}
+use Rattle.rules.specs.Columns.{Rows}
 use Rattle.column.specs.declared.Found.{Found}
 use Rattle.column.specs.declared.Found.the-variants.{At, Nothing}
-
--- so many rows stand in both columns, of a base or of a list
-pub record Rows (keys values : List ℕ) (rows : ℕ) : Type 0 where
-  pub in-keys : rows ≤ length keys
-  pub in-values : rows ≤ length values
 
 -- section 2: at most so many journal records
 abbrev pub mostRecords : ℕ

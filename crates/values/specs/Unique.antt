@@ -1,17 +1,14 @@
--- No second answer satisfies the contract of a public function of `values` and `lists`, nor a second column at exit. Assumes nothing.
+-- No second answer satisfies the contract of a public function of this crate. Assumes nothing.
 use mathlib.Core.Path.{_≡_, sym, _∙_}
 use mathlib.Core.List.{List}
 use Prim.Native.Nat.{ℕ}
-use lib.ListN.{length}
 use Rattle.rules.specs.declared.Value.{Value}
 use Rattle.rules.specs.Effects.{effects}
 use Rattle.rules.specs.Transactions.{of}
 use Rattle.rules.specs.Values.{rowValue, valueAt, value}
-use Rattle.rules.specs.Lists.{listAt}
 use Rattle.rules.specs.Columns.{firstRows}
 use Rattle.record.specs.Bytes.{newest}
 use Rattle.values.specs.Pass.{readFrom}
-use Rattle.values.specs.Lists.{Filled}
 
 module _ (journal : List ℕ) (used : ℕ) where
   pub value-unique : (start : Value) (k t : ℕ) {v w : Value} → v ≡ value start k t (newest used journal) → w ≡ value start k t (newest used journal) → v ≡ w
@@ -33,12 +30,3 @@ module _ (keys values : List ℕ) (rows : ℕ) where
     pub read-in-unique : (n snapshot k : ℕ) {v w : Value} → v ≡ readFrom (firstRows rows keys values) (newest used journal) n snapshot k
         → w ≡ readFrom (firstRows rows keys values) (newest used journal) n snapshot k → v ≡ w
     read-in-unique n snapshot k p q = p ∙ sym q
-
-    pub count-listed-unique : (t : ℕ) {m n : ℕ} → m ≡ length (listAt (firstRows rows keys values) (newest used journal) t)
-        → n ≡ length (listAt (firstRows rows keys values) (newest used journal) t) → m ≡ n
-    count-listed-unique t p q = p ∙ sym q
-
-    pub fill-list-unique : (t : ℕ) {listed contents keys' values' keys'' values'' : List ℕ}
-        → Filled (listAt (firstRows rows keys values) (newest used journal) t) listed contents keys' values'
-        → Filled (listAt (firstRows rows keys values) (newest used journal) t) listed contents keys'' values'' → (keys' ≡ keys'') × (values' ≡ values'')
-    fill-list-unique t p q = (p .keys-column ∙ sym (q .keys-column), p .values-column ∙ sym (q .values-column))

@@ -1,32 +1,20 @@
 // Rules 3.4 and 3.5: the value of a key at a time, in one pass over the records, and a read.
 // The key's updates so far are kept, and applied where a commit stands.
 ghost use mathlib.Core.Path.{_≡_};
-ghost use mathlib.Core.Bool.{_&&_};
 ghost use Prim.Native.Nat.{_*_, _≤_};
-ghost use lib.Dec.{leb};
 ghost use lib.ListN.{length};
-ghost use Rattle.rules.specs.Kinds.{recordBytes, isCommit};
+ghost use Rattle.rules.specs.Kinds.{recordBytes};
 ghost use Rattle.rules.specs.Effects.{writes as writesTo, effects};
 ghost use Rattle.rules.specs.Transactions.{of};
 ghost use Rattle.rules.specs.Values.{rowValue, valueAt, value as valueIn};
-ghost use Rattle.rules.specs.Columns.{firstRows};
+ghost use Rattle.rules.specs.Columns.{firstRows, Rows};
 ghost use Rattle.record.specs.Bytes.{newest};
-ghost use Rattle.values.specs.Pass.{Rows, Records, Lent, Kept, ownStep, keptStep, keptEffects, readFrom};
+ghost use Rattle.values.specs.Pass.{Records, Lent, Kept, ownStep, keptStep, keptEffects, readFrom};
 use column::Found;
 use journal::Journal;
 use rules::Effect;
 use rules::Record;
 use rules::Value;
-
-// A commit at or before t.
-fn settles(r: Record, t: u64) -> bool
-    ensures { λ b. ⌜ b ≡ (isCommit r && leb (r .time) t) ⌝ }
-{
-    if r.kind != Record::COMMIT {
-        return false;
-    }
-    r.time <= t
-}
 
 // An update of the key. The key is tested first: few records have it.
 fn writes(r: Record, k: u32) -> bool
@@ -85,7 +73,7 @@ pub fn value(journal: &[u8], used: usize, start: Value, k: u32, t: u64) -> Value
     let mut i = 0;
     while i < used {
         let r = record::read(journal, i);
-        if settles(r, t) {
+        if r.settles(t) {
             v = kept_effects(&transactions, &kinds, &amounts, n, r.transaction, v);
         }
         if writes(r, k) {

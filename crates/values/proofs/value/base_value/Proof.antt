@@ -9,12 +9,12 @@ use lib.ListN.{length, take, getD, length-take}
 use lib.Seq.{getD-take}
 use Rattle.rules.specs.declared.Value.the-variants.{Absent, Present}
 use Rattle.rules.specs.Values.{rowValue}
-use Rattle.rules.specs.Columns.{firstRows}
+use Rattle.rules.specs.Columns.{firstRows, Rows}
 use Rattle.column.specs.declared.Found.{Found}
 use Rattle.column.specs.declared.Found.the-variants.{At, Nothing}
 use Rattle.column.specs.Column.{firstRow}
 use Rattle.column.specs.Laws.{first-at}
-use Rattle.values.specs.Pass.{Rows, foundValue}
+use Rattle.values.specs.Pass.{foundValue}
 use Rattle.values.specs.PassLaws.{row-found}
 use Rattle.values.proofs.value.base_value.Statement.{statement}
 use Rattle.values.proofs.value.base_value.Tie as tie
