@@ -3,9 +3,11 @@ pub mod Walks
 pub mod Ends
 pub mod Some
 pub mod Meets
+pub mod Past
 pub mod Gathered
 pub mod WalkJudged
 pub mod CompactColumns
+pub mod Marks
 pub mod Compact
 pub mod CompactLaws
 pub mod UniqueCompact

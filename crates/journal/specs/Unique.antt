@@ -5,9 +5,9 @@ use mathlib.Core.List.{List}
 use Prim.Native.Nat.{ℕ}
 use lib.Dec.{ltb}
 use Rattle.rules.specs.declared.Record.{Record}
-use Rattle.rules.specs.Transactions.{of, runs}
+use Rattle.rules.specs.Transactions.{any, of, runs}
 use Rattle.rules.specs.Times.{last, next}
-use Rattle.rules.specs.Conflicts.{conflict}
+use Rattle.rules.specs.Conflicts.{clashes}
 use Rattle.rules.specs.Checkpoints.{held}
 use Rattle.rules.specs.Recovery.{mayWrite}
 use Rattle.journal.specs.declared.Base.{Base}
@@ -50,5 +50,5 @@ module _ (rs : List Record) where
   pub may-write-unique : (n k : ℕ) (a b : Bool) → a ≡ mayWrite n k rs → b ≡ mayWrite n k rs → a ≡ b
   may-write-unique n k a b p q = p ∙ sym q
 
-  pub conflict-unique : (n : ℕ) (a b : Bool) → a ≡ conflict n rs → b ≡ conflict n rs → a ≡ b
-  conflict-unique n a b p q = p ∙ sym q
+  pub conflict-unique : (n snapshot : ℕ) (a b : Bool) → a ≡ any (clashes rs snapshot) (of n rs) → b ≡ any (clashes rs snapshot) (of n rs) → a ≡ b
+  conflict-unique n snapshot a b p q = p ∙ sym q

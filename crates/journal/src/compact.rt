@@ -2,12 +2,14 @@
 // Which ones stay is settled before the first byte moves.
 ghost use mathlib.Core.Path.{_≡_};
 ghost use mathlib.Core.Bool.{true};
-ghost use Prim.Native.Nat.{_*_, _≤_};
-ghost use lib.ListN.{length, take};
+ghost use Prim.Native.Nat.{_*_, _%_, _≤_};
+ghost use lib.ListN.{length, take, replicate};
 ghost use Rattle.rules.specs.Kinds.{recordBytes};
+ghost use Rattle.rules.specs.Lists.{among};
 ghost use Rattle.rules.specs.Checkpoints.{raise as raised, kept};
 ghost use Rattle.rules.specs.Recovery.{accepts, survivors};
 ghost use Rattle.record.specs.Bytes.{newest};
+ghost use Rattle.journal.specs.Marks.{MarkSet, Marks};
 ghost use Rattle.journal.specs.Compact.{keptIn, sifted, zeroed, Moved, Compacted};
 use crate::Journal;
 use crate::conflicts;
@@ -34,8 +36,71 @@ fn raise(t: u64, r: Record) -> Record
     }
 }
 
+// How many places there are for marks.
+const MARKS: usize = 1024;
+
+// The place of a number's mark.
+fn mark_place(n: u32) -> usize
+    ensures { λ r. ⌜ r ≡ n % 1024 ⌝ }
+{
+    (n % 1024) as usize
+}
+
+// A number's mark set, where its place is free: whether the place is its own.
+fn set_mark(marks: &mut [u32], n: u32) -> bool
+    requires { ⌜ length (now marks) ≡ 1024 ⌝ }
+    ensures { λ b. ⌜ MarkSet (now (marks .entry)) n b (now (marks .exit)) ⌝ }
+{
+    let at = mark_place(n);
+    let old = marks[at];
+    if old == 0 {
+        marks[at] = n;
+        return true;
+    }
+    old == n
+}
+
+// The first numbers of a column marked: whether each has a place of its own. Numbers rise by one from begin to begin, so that those of a journal
+// mostly have.
+fn mark(numbers: &[u32], count: usize, marks: &mut [u32]) -> bool
+    requires { ⌜ (count ≤ length (now numbers)) × (now marks ≡ replicate 1024 0) ⌝ }
+    ensures { λ b. ⌜ Marks (take count (now (numbers .entry))) (now (marks .exit)) b ⌝ }
+{
+    let mut alone = true;
+    let mut i = 0;
+    while i < count {
+        if !set_mark(marks, numbers[i]) {
+            alone = false;
+        }
+        i += 1;
+    }
+    alone
+}
+
+// Whether a number stands in the first rows of a column, by its mark where that can tell.
+fn is_marked(numbers: &[u32], count: usize, marks: &[u32], alone: bool, n: u32) -> bool
+    requires { ⌜ Marks (take count (now numbers)) (now marks) alone ⌝ }
+    ensures { λ b. ⌜ b ≡ among n (take count (now (numbers .entry))) ⌝ }
+{
+    if alone {
+        if n != 0 {
+            return marks[mark_place(n)] == n;
+        }
+    }
+    conflicts::is_in(numbers, count, n)
+}
+
 // Whether a record stays: it is of a known kind, and its transaction stands in one of two columns.
-fn is_kept(r: Record, running: &[u32], opened: usize, lates: &[u32], late: usize) -> bool
+fn is_kept(
+    r: Record,
+    running: &[u32],
+    opened: usize,
+    lates: &[u32],
+    late: usize,
+    marks: &[u32],
+    alone: bool,
+) -> bool
+    requires { ⌜ Marks (take late (now lates)) (now marks) alone ⌝ }
     ensures { λ b. ⌜ b ≡ keptIn (take opened (now (running .entry))) (take late (now (lates .entry))) r ⌝ }
 {
     if r.kind < Record::BEGIN {
@@ -47,7 +112,7 @@ fn is_kept(r: Record, running: &[u32], opened: usize, lates: &[u32], late: usize
     if conflicts::is_in(running, opened, r.transaction) {
         return true;
     }
-    conflicts::is_in(lates, late, r.transaction)
+    is_marked(lates, late, marks, alone, r.transaction)
 }
 
 // The records that stay move up, their begins raised; how many they are.
@@ -59,15 +124,17 @@ fn keep(
     opened: usize,
     lates: &[u32],
     late: usize,
+    marks: &[u32],
+    alone: bool,
 ) -> usize
-    requires { ⌜ used * recordBytes ≤ length (now journal) ⌝ }
+    requires { ⌜ (used * recordBytes ≤ length (now journal)) × Marks (take late (now lates)) (now marks) alone ⌝ }
     ensures { λ r. ⌜ Moved (sifted (keptIn (take opened (now (running .entry))) (take late (now (lates .entry)))) t (newest used (now (journal .entry)))) (now (journal .entry)) used r (now (journal .exit)) ⌝ }
 {
     let mut count = 0;
     let mut i = 0;
     while i < used {
         let r = record::read(journal, i);
-        if is_kept(r, running, opened, lates, late) {
+        if is_kept(r, running, opened, lates, late, marks, alone) {
             record::append(journal, count, raise(t, r));
             count += 1;
         }
@@ -97,7 +164,19 @@ pub fn keep_running(journal: &mut [u8], used: usize, t: u64) -> usize
     let opened = transactions::running_numbers(journal, used, &mut running);
     let mut lates = [0u32; Journal::RECORDS];
     let late = conflicts::late_numbers(journal, used, t, &mut lates);
-    let count = keep(journal, used, t, &running, opened, &lates, late);
+    let mut marks = [0u32; MARKS];
+    let alone = mark(&lates, late, &mut marks);
+    let count = keep(
+        journal,
+        used,
+        t,
+        &running,
+        opened,
+        &lates,
+        late,
+        &marks,
+        alone,
+    );
     zero(journal, count * Record::BYTES, used * Record::BYTES);
     count
 }
@@ -110,7 +189,9 @@ pub fn keep_done(journal: &mut [u8], used: usize, low: u64, end: usize) -> usize
 {
     let mut lates = [0u32; Journal::RECORDS];
     let late = conflicts::late_numbers(journal, used, low, &mut lates);
-    let count = keep(journal, used, low, &lates, 0, &lates, late);
+    let mut marks = [0u32; MARKS];
+    let alone = mark(&lates, late, &mut marks);
+    let count = keep(journal, used, low, &lates, 0, &lates, late, &marks, alone);
     zero(journal, count * Record::BYTES, end);
     count
 }

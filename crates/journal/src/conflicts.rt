@@ -6,12 +6,12 @@ ghost use Rattle.rules.specs.Kinds.{recordBytes};
 ghost use Rattle.rules.specs.Transactions.{any, of};
 ghost use Rattle.rules.specs.Lists.{among};
 ghost use Rattle.rules.specs.Checkpoints.{late};
-ghost use Rattle.rules.specs.Conflicts.{clashes, conflict as conflictIn};
+ghost use Rattle.rules.specs.Conflicts.{clashes};
 ghost use Rattle.rules.specs.Recovery.{mayWrite};
 ghost use Rattle.record.specs.Bytes.{newest};
+ghost use Rattle.journal.specs.Past.{Past};
 ghost use Rattle.journal.specs.Gathered.{newKey, metIn, KeysOf, LateOf};
 use crate::Journal;
-use crate::transactions;
 use column::Found;
 use rules::Record;
 
@@ -144,11 +144,14 @@ pub(crate) fn conflict_since(journal: &[u8], used: usize, n: u32, s: u64) -> boo
     any_met(journal, used, &keys, written, &numbers, late)
 }
 
-// Whether a commit of the transaction conflicts: somebody who committed later than its snapshot wrote a key that it has written.
-pub fn conflict(journal: &[u8], used: usize, n: u32) -> bool
-    requires { ⌜ (used ≤ 2048) × (used * recordBytes ≤ length (now journal)) ⌝ }
-    ensures { λ b. ⌜ b ≡ conflictIn n (newest used (now (journal .entry))) ⌝ }
+// Whether a commit of the transaction conflicts: somebody who committed later than its snapshot wrote a key that it has written. No commit is later
+// than last, so that a snapshot at last is clear at once.
+pub fn conflict(journal: &[u8], used: usize, n: u32, snapshot: u64, last: u64) -> bool
+    requires { ⌜ (used ≤ 2048) × (used * recordBytes ≤ length (now journal)) × Past last (newest used (now journal)) ⌝ }
+    ensures { λ b. ⌜ b ≡ any (clashes (newest used (now (journal .entry))) snapshot) (of n (newest used (now (journal .entry)))) ⌝ }
 {
-    let trace = transactions::follow(journal, used, n);
-    conflict_since(journal, used, n, trace.snapshot)
+    if last <= snapshot {
+        return false;
+    }
+    conflict_since(journal, used, n, snapshot)
 }

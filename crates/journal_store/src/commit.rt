@@ -32,13 +32,15 @@ fn decide(h: Head, keys: &[u32], values: &[u32], journal: &[u8], n: u32, t: u64)
     ensures { λ r. ⌜ ofDone r ≡ decided (Commit n t) (roomOf (length (now (journal .entry)))) (meaning h (now (keys .entry)) (now (values .entry)) (now (journal .entry))) ⌝ }
 {
     let used = h.journal.used;
-    if !journal::transactions::runs(journal, used, n) {
+    let trace = journal::transactions::follow(journal, used, n);
+    if !trace.runs() {
         return Done::Refused(Refusal::UnknownTransaction);
     }
-    if t <= journal::times::last(journal, used, h.low) {
+    let last = journal::times::last(journal, used, h.low);
+    if t <= last {
         return Done::Refused(Refusal::NotLater);
     }
-    if journal::conflicts::conflict(journal, used, n) {
+    if journal::conflicts::conflict(journal, used, n, trace.snapshot, last) {
         return Done::Refused(Refusal::Conflict);
     }
     if crate::room(journal.len()) < used + 1 {

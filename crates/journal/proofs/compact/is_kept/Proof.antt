@@ -30,13 +30,13 @@ module _ (running lates : List ℕ) (r : Record) where
 
 returns : tie.Need-returns
 returns c =
-    let a = c .before .before .before .before .args in
+    let a = c .before .before .before .before .before .args in
     low-kind (take (a .opened) (now (a .running))) (take (a .late) (now (a .lates))) (a .r) (c .if1 .taken)
 
 returns-2 : tie.Need-returns-2
 returns-2 c =
     let e = c .before .before in
-    let a = e .before .before .before .before .args in
+    let a = e .before .before .before .before .before .args in
     high-kind (take (a .opened) (now (a .running))) (take (a .late) (now (a .lates))) (a .r) (e .if1 .left) (c .if2 .taken)
 
 is-in-requires : tie.Need-is-in-requires
@@ -46,21 +46,21 @@ returns-3 : tie.Need-returns-3
 returns-3 c =
     let i = c .before in
     let e = i .before .before .before in
-    let a = e .before .before .before .before .args in
+    let a = e .before .before .before .before .before .args in
     runs (take (a .opened) (now (a .running))) (take (a .late) (now (a .lates))) (a .r) (e .if1 .left) (i .before .if2 .left) _ (i .is-in .ensures)
     (c .if3 .taken)
 
-is-in-requires-2 : tie.Need-is-in-requires-2
-is-in-requires-2 c κs = search needs
+is-marked-requires : tie.Need-is-marked-requires
+is-marked-requires c κs = search needs
 
 returns-4 : tie.Need-returns-4
 returns-4 c =
     let i = c .before .before in
     let e = i .before .before .before in
-    let a = e .before .before .before .before .args in
+    let a = e .before .before .before .before .before .args in
     later (take (a .opened) (now (a .running))) (take (a .late) (now (a .lates))) (a .r) (e .if1 .left) (i .before .if2 .left) _ (i .is-in .ensures)
-    (c .before .if3 .left) _ (c .is-in2 .ensures)
+    (c .before .if3 .left) _ (c .is-marked .ensures)
 
 pub is-kept-spec : {M : Type 1} → statement M
 is-kept-spec =
-    tie.close (tie.spec returns returns-2 is-in-requires returns-3 is-in-requires-2 returns-4)
+    tie.close (tie.spec returns returns-2 is-in-requires returns-3 is-marked-requires returns-4)

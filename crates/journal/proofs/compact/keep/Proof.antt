@@ -65,13 +65,13 @@ module _ (p : Record → Bool) (t : ℕ) (b₀ b b' : List ℕ) (i m m' : ℕ) (
       }
 
 abbrev Inv-loop : tie.InvT-loop
-Inv-loop journal₀ used t running opened lates late count₀ i₀ journal count i =
+Inv-loop journal₀ used t running opened lates late marks alone count₀ i₀ journal count i =
     (i ≤ used)
     × (length journal ≡ length journal₀)
     × Moved (sifted (keptIn (take opened running) (take late lates)) t (newest i journal₀)) journal₀ i count journal
 
 abbrev μ-loop : tie.MeasureT-loop
-μ-loop journal₀ used t running opened lates late count₀ i₀ journal count i = used - i
+μ-loop journal₀ used t running opened lates late marks alone count₀ i₀ journal count i = used - i
 
 loop-holds : tie.Need-loop-holds Inv-loop μ-loop
 loop-holds c = (omega arith, refl, record { few = omega arith; count = refl; front = refl; back = refl })
@@ -102,11 +102,12 @@ loop-again c =
     let k = c .before in
     let rd = k .before in
     let l = rd .before .before .before .loop in
-    let a = rd .before .before .before .before .before .before .before .args in
+    let s = rd .before .before .before .before .before .before .before .before in
+    let a = s .args in
     let j = now (a .journal) in
     let p = keptIn (take (a .opened) (now (a .running))) (take (a .late) (now (a .lates))) in
     let y = l .inv .2 in
-    let h : l .i * recordBytes + recordBytes ≤ length j = omega arith in (
+    let h : l .i * recordBytes + recordBytes ≤ length j = omega (arith, s .pre .0, rd .before .before .loop-test .taken) in (
       omega arith,
       ⊎-elim
           (λ w. ap length (w .6 ∙ w .3 .ensures) ∙ length-appended (l .journal) (l .count) _ (omega (arith, y .few, l .inv .1)) ∙ l .inv .1)
@@ -128,7 +129,7 @@ same-length c = c .before .loop .inv .1
 returns : tie.Need-returns Inv-loop μ-loop
 returns c =
     let l = c .before .loop in
-    let a = c .before .before .before .before .before .args in
+    let a = c .before .before .before .before .before .before .args in
     let e : l .i ≡ a .used = omega arith in
     rw e at (l .inv .2)
 

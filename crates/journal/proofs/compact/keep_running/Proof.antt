@@ -1,4 +1,5 @@
 -- `journal::compact::keep_running` meets its contract: what its two columns keep is what rule 3.9 keeps. Assumes nothing.
+use mathlib.Core.Path.{refl}
 use Prim.Native.Nat.{_*_}
 use Rattle.rules.specs.Kinds.{recordBytes}
 use Rattle.rules.specs.Checkpoints.{kept}
@@ -22,11 +23,23 @@ slice-aggregate-late-numbers c = search needs
 late-numbers-requires : tie.Need-late-numbers-requires
 late-numbers-requires c κs = search needs
 
+slice-aggregate-mark : tie.Need-slice-aggregate-mark
+slice-aggregate-mark c = search needs
+
+slice-aggregate-mark-2 : tie.Need-slice-aggregate-mark-2
+slice-aggregate-mark-2 c = search needs
+
+mark-requires : tie.Need-mark-requires
+mark-requires c κs = (omega (arith, c .before .before .before .late-numbers .ensures .few), refl)
+
 slice-aggregate-keep : tie.Need-slice-aggregate-keep
 slice-aggregate-keep c = search needs
 
 slice-aggregate-keep-2 : tie.Need-slice-aggregate-keep-2
 slice-aggregate-keep-2 c = search needs
+
+slice-aggregate-keep-3 : tie.Need-slice-aggregate-keep-3
+slice-aggregate-keep-3 c = search needs
 
 keep-requires : tie.Need-keep-requires
 keep-requires c κs = search needs
@@ -47,7 +60,7 @@ returns : tie.Need-returns
 returns c =
     let z = c .before .before in
     let k = z .before .before .before .before in
-    let l = k .before .before .before .before .before in
+    let l = k .before .before .before .before .before .before .before .before .before .before in
     let o = l .before .before .before .before in
     let a = o .before .before .before .before .args in
     let rs = newest (a .used) (now (a .journal)) in
@@ -62,8 +75,12 @@ keep-running-spec =
     running-numbers-requires
     slice-aggregate-late-numbers
     late-numbers-requires
+    slice-aggregate-mark
+    slice-aggregate-mark-2
+    mark-requires
     slice-aggregate-keep
     slice-aggregate-keep-2
+    slice-aggregate-keep-3
     keep-requires
     mul-zero
     mul-zero-2

@@ -1,26 +1,25 @@
--- `journal::conflicts::conflict` meets its contract: its time is the snapshot. Assumes nothing.
-use mathlib.Core.Path.{ap, _∙_}
-use Rattle.rules.specs.Transactions.{any, of}
-use Rattle.rules.specs.Conflicts.{clashes}
+-- `journal::conflicts::conflict` meets its contract: with a snapshot at last nobody conflicts. Assumes nothing.
+use mathlib.Core.Path.{sym}
+use Rattle.rules.specs.Transactions.{of}
 use Rattle.record.specs.Bytes.{newest}
-use Rattle.journal.specs.declared.transactions.Trace.{Trace}
+use Rattle.journal.specs.Past.{no-clash-since}
 use borrow.Author.Needs.{needs}
 use denote.Ref.{now}
 use Rattle.journal.proofs.conflicts.conflict.Statement.{statement}
 use Rattle.journal.proofs.conflicts.conflict.Tie as tie
 
-follow-requires : tie.Need-follow-requires
-follow-requires c κs = search needs
+returns : tie.Need-returns
+returns c =
+    let s = c .before .before in
+    let a = s .args in
+    let rs = newest (a .used) (now (a .journal)) in
+    sym (no-clash-since (a .last) (a .snapshot) rs (of (a .n) rs) (c .if1 .taken) (s .pre .2))
 
 conflict-since-requires : tie.Need-conflict-since-requires
 conflict-since-requires c κs = search needs
 
-returns : tie.Need-returns
-returns c =
-    let f = c .before in
-    let a = f .before .before .args in
-    let rs = newest (a .used) (now (a .journal)) in
-    c .conflict-since .ensures ∙ ap (λ (t : Trace). any (clashes rs (t .snapshot)) (of (a .n) rs)) (f .follow .ensures)
+returns-2 : tie.Need-returns-2
+returns-2 c = search needs
 
 pub conflict-spec : {M : Type 1} → statement M
-conflict-spec = tie.close (tie.spec follow-requires conflict-since-requires returns)
+conflict-spec = tie.close (tie.spec returns conflict-since-requires returns-2)

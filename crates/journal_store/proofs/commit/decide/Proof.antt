@@ -1,8 +1,14 @@
 -- `journal_store::commit::decide` meets its contract: a law for each way out. Assumes nothing.
-use mathlib.Core.Path.{_≡_, sym, _∙_}
+use mathlib.Core.Path.{_≡_, sym, ap, _∙_}
+use mathlib.Core.Bool.{not, _&&_}
 use borrow.Author.Tests.{not-true, not-false}
 use lib.ListN.{length}
+use Rattle.rules.specs.Transactions.{any, of}
+use Rattle.rules.specs.Conflicts.{clashes}
+use Rattle.record.specs.Bytes.{newest}
 use Rattle.record.specs.Laws.{length-newest}
+use Rattle.journal.specs.declared.transactions.Trace.{Trace}
+use Rattle.journal.specs.Past.{past-last}
 use Rattle.journal_store.specs.Shape.{roomOf, meaning}
 use Rattle.journal_store.specs.Tests.{commit-unknown, commit-later, commit-conflict, commit-room, commit-done}
 use borrow.Author.Needs.{needs}
@@ -10,14 +16,20 @@ use denote.Ref.{now}
 use Rattle.journal_store.proofs.commit.decide.Statement.{statement}
 use Rattle.journal_store.proofs.commit.decide.Tie as tie
 
+follow-requires : tie.Need-follow-requires
+follow-requires c κs = search needs
+
 runs-requires : tie.Need-runs-requires
 runs-requires c κs = search needs
 
 returns : tie.Need-returns
 returns c =
     let rn = c .before in
-    let a = rn .before .before .before .before .args in
-    commit-unknown (roomOf (length (now (a .journal)))) (meaning (a .h) (now (a .keys)) (now (a .values)) (now (a .journal))) (a .n) _ (rn .runs .ensures) (a .t) (not-true _ (c .if1 .taken))
+    let fo = rn .before in
+    let a = fo .before .before .before .before .args in
+    let rs = newest (a .h .journal .used) (now (a .journal)) in
+    let ru = rn .runs .ensures ∙ ap (λ (x : Trace). x .begun && not (x .ended)) (fo .follow .ensures) in
+    commit-unknown (roomOf (length (now (a .journal)))) (meaning (a .h) (now (a .keys)) (now (a .values)) (now (a .journal))) (a .n) _ ru (a .t) (not-true _ (c .if1 .taken))
 
 last-requires : tie.Need-last-requires
 last-requires c κs = search needs
@@ -27,12 +39,21 @@ returns-2 c =
     let la = c .before in
     let e1 = la .before in
     let rn = e1 .before in
-    let a = rn .before .before .before .before .args in
-    commit-later (roomOf (length (now (a .journal)))) (meaning (a .h) (now (a .keys)) (now (a .values)) (now (a .journal))) (a .n) _ (rn .runs .ensures) (not-false _ (e1 .if1 .left)) (a .t) _ (la .last .ensures)
+    let fo = rn .before in
+    let a = fo .before .before .before .before .args in
+    let rs = newest (a .h .journal .used) (now (a .journal)) in
+    let ru = rn .runs .ensures ∙ ap (λ (x : Trace). x .begun && not (x .ended)) (fo .follow .ensures) in
+    commit-later (roomOf (length (now (a .journal)))) (meaning (a .h) (now (a .keys)) (now (a .values)) (now (a .journal))) (a .n) _ ru (not-false _ (e1 .if1 .left)) (a .t) _ (la .last .ensures)
     (c .if2 .taken)
 
 conflict-requires : tie.Need-conflict-requires
-conflict-requires c κs = search needs
+conflict-requires c κs =
+    let la = c .before in
+    let e1 = la .before in
+    let fo = e1 .before .before in
+    let s = fo .before .before .before .before in
+    let a = s .args in
+    (s .pre .usedLimit, s .pre .used, rw (la .last .ensures) (past-last (a .h .low) (newest (a .h .journal .used) (now (a .journal)))))
 
 returns-3 : tie.Need-returns-3
 returns-3 c =
@@ -41,9 +62,12 @@ returns-3 c =
     let la = e2 .before in
     let e1 = la .before in
     let rn = e1 .before in
-    let a = rn .before .before .before .before .args in
-    commit-conflict (roomOf (length (now (a .journal)))) (meaning (a .h) (now (a .keys)) (now (a .values)) (now (a .journal))) (a .n) _ (rn .runs .ensures) (not-false _ (e1 .if1 .left)) (a .t) _ (la .last .ensures)
-    (e2 .if2 .left) _ (co .conflict .ensures) (c .if3 .taken)
+    let fo = rn .before in
+    let a = fo .before .before .before .before .args in
+    let rs = newest (a .h .journal .used) (now (a .journal)) in
+    let ru = rn .runs .ensures ∙ ap (λ (x : Trace). x .begun && not (x .ended)) (fo .follow .ensures) in
+    commit-conflict (roomOf (length (now (a .journal)))) (meaning (a .h) (now (a .keys)) (now (a .values)) (now (a .journal))) (a .n) _ ru (not-false _ (e1 .if1 .left)) (a .t) _ (la .last .ensures)
+    (e2 .if2 .left) _ (co .conflict .ensures ∙ ap (λ (x : Trace). any (clashes rs (x .snapshot)) (of (a .n) rs)) (fo .follow .ensures)) (c .if3 .taken)
 
 room-requires : tie.Need-room-requires
 room-requires c κs = search needs
@@ -60,9 +84,12 @@ returns-4 c =
     let la = e2 .before in
     let e1 = la .before in
     let rn = e1 .before in
-    let a = rn .before .before .before .before .args in
-    commit-room (roomOf (length (now (a .journal)))) (meaning (a .h) (now (a .keys)) (now (a .values)) (now (a .journal))) (a .n) _ (rn .runs .ensures) (not-false _ (e1 .if1 .left)) (a .t) _ (la .last .ensures)
-    (e2 .if2 .left) _ (co .conflict .ensures) (e3 .if3 .left) (a .h .journal .used) (length-newest (a .h .journal .used) (now (a .journal))) (rw (rm .room .ensures) at (c .if4 .taken))
+    let fo = rn .before in
+    let a = fo .before .before .before .before .args in
+    let rs = newest (a .h .journal .used) (now (a .journal)) in
+    let ru = rn .runs .ensures ∙ ap (λ (x : Trace). x .begun && not (x .ended)) (fo .follow .ensures) in
+    commit-room (roomOf (length (now (a .journal)))) (meaning (a .h) (now (a .keys)) (now (a .values)) (now (a .journal))) (a .n) _ ru (not-false _ (e1 .if1 .left)) (a .t) _ (la .last .ensures)
+    (e2 .if2 .left) _ (co .conflict .ensures ∙ ap (λ (x : Trace). any (clashes rs (x .snapshot)) (of (a .n) rs)) (fo .follow .ensures)) (e3 .if3 .left) (a .h .journal .used) (length-newest (a .h .journal .used) (now (a .journal))) (rw (rm .room .ensures) at (c .if4 .taken))
 
 returns-5 : tie.Need-returns-5
 returns-5 c =
@@ -73,14 +100,18 @@ returns-5 c =
     let la = e2 .before in
     let e1 = la .before in
     let rn = e1 .before in
-    let a = rn .before .before .before .before .args in
-    commit-done (roomOf (length (now (a .journal)))) (meaning (a .h) (now (a .keys)) (now (a .values)) (now (a .journal))) (a .n) _ (rn .runs .ensures) (not-false _ (e1 .if1 .left)) (a .t) _ (la .last .ensures)
-    (e2 .if2 .left) _ (co .conflict .ensures) (e3 .if3 .left) (a .h .journal .used) (length-newest (a .h .journal .used) (now (a .journal))) (rw (rm .room .ensures) at (c .if4 .left))
+    let fo = rn .before in
+    let a = fo .before .before .before .before .args in
+    let rs = newest (a .h .journal .used) (now (a .journal)) in
+    let ru = rn .runs .ensures ∙ ap (λ (x : Trace). x .begun && not (x .ended)) (fo .follow .ensures) in
+    commit-done (roomOf (length (now (a .journal)))) (meaning (a .h) (now (a .keys)) (now (a .values)) (now (a .journal))) (a .n) _ ru (not-false _ (e1 .if1 .left)) (a .t) _ (la .last .ensures)
+    (e2 .if2 .left) _ (co .conflict .ensures ∙ ap (λ (x : Trace). any (clashes rs (x .snapshot)) (of (a .n) rs)) (fo .follow .ensures)) (e3 .if3 .left) (a .h .journal .used) (length-newest (a .h .journal .used) (now (a .journal))) (rw (rm .room .ensures) at (c .if4 .left))
 
 pub decide-spec : {M : Type 1} → statement M
 decide-spec =
     tie.close
     (tie.spec
+    follow-requires
     runs-requires
     returns
     last-requires

@@ -1,0 +1,51 @@
+-- No commit is later than last, and nobody conflicts with a snapshot that no commit is later than. Assumes nothing.
+use mathlib.Core.Path.{_≡_, refl, sym, _∙_}
+use mathlib.Core.Bool.{Bool, true, false, _&&_, _||_, false≢true}
+use mathlib.Core.List.{List, [], _∷_}
+use Prim.Native.Nat.{ℕ, _≤_}
+use native.Mathlib.Nat.{le-max-left, le-max-right}
+use native.Mathlib.Omega.{arith}
+use borrow.Author.Tests.{le-ltb, ltb-false}
+use lib.Dec.{ltb}
+use Rattle.rules.specs.declared.Record.{Record}
+use Rattle.rules.specs.Bools.{split}
+use Rattle.rules.specs.Kinds.{isUpdate, isCommit}
+use Rattle.rules.specs.Transactions.{any, of, wrote}
+use Rattle.rules.specs.Times.{last}
+use Rattle.rules.specs.Conflicts.{wroteAfter, touched, clashes}
+
+-- every commit of some records is at or before l
+pub data Past (l : ℕ) : List Record → Type 0 where
+  none : Past l []
+  more : (r : Record) (rs : List Record) → (isCommit r ≡ true → r .time ≤ l) → Past l rs → Past l (r ∷ rs)
+
+-- and so it is before any later time
+later : {l m : ℕ} {rs : List Record} → l ≤ m → Past l rs → Past m rs
+later h none = none
+later h (more r rs c p) = more r rs (λ e. let k = c e in omega arith) (later h p)
+
+pub past-last : (low : ℕ) (rs : List Record) → Past (last low rs) rs
+past-last low [] = none
+past-last low (r ∷ rs) =
+    split (isCommit r)
+    (λ e.
+    rw e
+    (more r rs (λ q. le-max-right (last low rs) (r .time)) (later (le-max-left (last low rs) (r .time)) (past-last low rs))))
+    (λ e. rw e (more r rs (λ q. absurd (false≢true (sym e ∙ q))) (past-last low rs)))
+
+module _ (whole : List Record) (s k : ℕ) where
+  -- no commit after s touched a key
+  untouched : {rs : List Record} → Past s rs → any (wroteAfter whole s k) rs ≡ false
+  untouched none = refl
+  untouched (more r rs c p) =
+      split (isCommit r)
+      (λ e. rw (e, le-ltb s (r .time) (c e)) (untouched p))
+      (λ e. rw e (untouched p))
+
+-- so nothing clashes
+pub no-clash : (s : ℕ) (rs xs : List Record) → Past s rs → any (clashes rs s) xs ≡ false
+no-clash s rs [] p = refl
+no-clash s rs (x ∷ xs) p = rw (untouched rs s (x .key) p) (split (isUpdate x) (λ e. rw e (no-clash s rs xs p)) (λ e. rw e (no-clash s rs xs p)))
+
+pub no-clash-since : (l s : ℕ) (rs xs : List Record) → l ≤ s → Past l rs → any (clashes rs s) xs ≡ false
+no-clash-since l s rs xs h p = no-clash s rs xs (later h p)
