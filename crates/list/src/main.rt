@@ -1,14 +1,92 @@
-// The listing program of section 7: a journal from standard input, its listing to standard output. It tries to read one byte more than a journal
-// has at the most, so that a longer input is refused.
+// The listing program of section 7: a journal from standard input, its listing to standard output. A Rattle program has no status of its own: where
+// a listing of records does not stand alone on standard output, one line on standard error says why, and `listing` takes its status from that.
+mod input;
+mod moves;
+mod output;
+
+ghost use mathlib.Core.Path.{_≡_};
+ghost use Prim.Native.Nat.{_≤_};
+ghost use lib.ListN.{length};
+ghost use Rattle.report.specs.Text.{textBytes};
+ghost use Rattle.report.specs.Written.{Reported};
+ghost use Rattle.list.specs.Outcome.{outcomeOf};
+use input::Input;
 use journal::Journal;
+use libc::STDERR_FILENO;
 use libc::STDIN_FILENO;
 use libc::STDOUT_FILENO;
 use rules::Record;
 
+// What the journal gave: a listing of its records, one of no record at all, or a refusal.
+enum Outcome {
+    Listed,
+    Empty,
+    Refused,
+}
+
+// The length of the text, and what it is.
+struct Told {
+    count: usize,
+    outcome: Outcome,
+}
+
+// The text for the bytes that survived. That of a refusal alone starts with an r.
+fn report_on(journal: &mut [u8], survived: usize, text: &mut [u8]) -> Told
+    requires { ⌜ textBytes ≤ length (now text) ⌝ }
+    ensures { λ r. ⌜ Reported (now (journal .entry)) survived (now (text .entry)) (r .count) (now (journal .exit)) (now (text .exit)) ⌝ }
+    ensures { λ r. ⌜ r .outcome ≡ outcomeOf (now (journal .entry)) survived ⌝ }
+{
+    let count = report::report(journal, survived, text);
+    if text[0] == b'r' {
+        return Told {
+            count,
+            outcome: Outcome::Refused,
+        };
+    }
+    if survived < Record::BYTES {
+        return Told {
+            count,
+            outcome: Outcome::Empty,
+        };
+    }
+    Told {
+        count,
+        outcome: Outcome::Listed,
+    }
+}
+
+// One line on standard error. Where that fails too, there is nobody to tell.
+fn say(line: &[u8]) {
+    output::write_all(STDERR_FILENO, line);
+}
+
+// The text to standard output, and the line that belongs to it.
+fn print(text: &[u8], outcome: Outcome) {
+    if !output::write_all(STDOUT_FILENO, text) {
+        say(b"listing: the listing could not be written\n");
+        return;
+    }
+    match outcome {
+        Outcome::Listed => {}
+        Outcome::Empty => say(
+            b"listing: this journal has no record; a store that has taken a checkpoint has its registers in its base\n",
+        ),
+        Outcome::Refused => say(b"listing: the store refuses this journal\n"),
+    }
+}
+
+// It tries to read one byte more than a journal has at the most, so that a longer input is refused.
 fn main() {
     let mut journal = [0u8; Journal::RECORDS * Record::BYTES + 1];
-    let survived = io::read_full(STDIN_FILENO, &mut journal);
-    let mut text = [0u8; report::TEXT];
-    let count = report::report(&mut journal, survived, &mut text);
-    io::write_all(STDOUT_FILENO, &text[..count]);
+    let input = input::read_all(STDIN_FILENO, &mut journal);
+    match input {
+        Input::Failed => say(b"listing: the journal could not be read\n"),
+        Input::Ended(survived) => {
+            let mut text = [0u8; report::TEXT];
+            let told = report_on(&mut journal, survived, &mut text);
+            let count = told.count;
+            let outcome = told.outcome;
+            print(&text[..count], outcome);
+        }
+    }
 }
