@@ -2,16 +2,18 @@
 use mathlib.Core.Path.{_≡_, refl, sym, _∙_}
 use mathlib.Core.Bool.{Bool, true, false, _&&_, _||_, false≢true}
 use mathlib.Core.List.{List, [], _∷_}
-use Prim.Native.Nat.{ℕ, _≤_}
-use native.Mathlib.Nat.{le-max-left, le-max-right}
+use Prim.Native.Nat.{ℕ, zero, suc, _*_, _<_, _≤_}
+use native.Mathlib.Nat.{le-max-left, le-max-right, max-le}
 use native.Mathlib.Omega.{arith}
-use borrow.Author.Tests.{le-ltb, ltb-false}
-use lib.Dec.{ltb}
+use borrow.Author.Tests.{eqb-true, eqb-false, le-ltb, ltb-false}
+use lib.Dec.{eqb, ltb}
 use Rattle.rules.specs.declared.Record.{Record}
-use Rattle.rules.specs.Bools.{split}
-use Rattle.rules.specs.Kinds.{isUpdate, isCommit}
+use Rattle.rules.specs.Bools.{split, or-none-left, or-none-right}
+use Rattle.rules.specs.Kinds.{isUpdate, isCommit, recordBytes}
 use Rattle.rules.specs.Transactions.{any, of, wrote}
 use Rattle.rules.specs.Times.{last}
+use Rattle.rules.specs.Checkpoints.{late}
+use Rattle.record.specs.Bytes.{recordAt, newest}
 use Rattle.rules.specs.Conflicts.{wroteAfter, touched, clashes}
 
 -- every commit of some records is at or before l
@@ -32,6 +34,35 @@ past-last low (r ∷ rs) =
     rw e
     (more r rs (λ q. le-max-right (last low rs) (r .time)) (later (le-max-left (last low rs) (r .time)) (past-last low rs))))
     (λ e. rw e (more r rs (λ q. absurd (false≢true (sym e ∙ q))) (past-last low rs)))
+
+-- low is at or before last
+pub low-last : (low : ℕ) (rs : List Record) → low ≤ last low rs
+low-last low [] = omega arith
+low-last low (r ∷ rs) =
+    split (isCommit r)
+    (λ e. rw e (omega (arith, low-last low rs, le-max-left (last low rs) (r .time))))
+    (λ e. rw e (low-last low rs))
+
+-- and so is each commit
+pub past-at : (l i used : ℕ) (j : List ℕ) → Past l (newest used j) → i < used → isCommit (recordAt j (i * recordBytes)) ≡ true
+    → recordAt j (i * recordBytes) .time ≤ l
+past-at l i zero j p h e = absurd (omega arith)
+past-at l i (suc used) j (more r rs c p) h e =
+    split (eqb i used)
+    (λ q. let z : i ≡ used = eqb-true i used q in rw z (c (rw z at e)))
+    (λ q. let z = eqb-false i used q in past-at l i used j p (omega arith) e)
+
+-- where no commit is later than a time from low on, last is no later
+pub last-past : (low t : ℕ) (rs : List Record) → low ≤ t → any (late t) rs ≡ false → last low rs ≤ t
+last-past low t [] h e = h
+last-past low t (r ∷ rs) h e =
+    let a = or-none-left (late t r) (any (late t) rs) e in
+    let k = last-past low t rs h (or-none-right (late t r) (any (late t) rs) e) in
+    split (isCommit r)
+    (λ c.
+    let z : r .time ≤ t = ltb-false t (r .time) (rw c at a) in
+    rw c (max-le k z))
+    (λ c. rw c k)
 
 module _ (whole : List Record) (s k : ℕ) where
   -- no commit after s touched a key

@@ -5,13 +5,13 @@ ghost use lib.ListN.{length, take};
 ghost use Rattle.rules.specs.Kinds.{recordBytes};
 ghost use Rattle.rules.specs.Transactions.{any, of};
 ghost use Rattle.rules.specs.Lists.{among};
-ghost use Rattle.rules.specs.Checkpoints.{late};
 ghost use Rattle.rules.specs.Conflicts.{clashes};
 ghost use Rattle.rules.specs.Recovery.{mayWrite};
 ghost use Rattle.record.specs.Bytes.{newest};
 ghost use Rattle.journal.specs.Past.{Past};
 ghost use Rattle.journal.specs.Gathered.{newKey, metIn, KeysOf, LateOf};
 use crate::Journal;
+use crate::times;
 use column::Found;
 use rules::Record;
 
@@ -69,16 +69,6 @@ pub fn may_write(journal: &[u8], used: usize, n: u32, k: u32) -> bool
     is_in(&keys, count, k)
 }
 
-// Whether a record is a commit later than a time.
-fn is_late(r: Record, s: u64) -> bool
-    ensures { λ b. ⌜ b ≡ late s r ⌝ }
-{
-    if r.kind != Record::COMMIT {
-        return false;
-    }
-    s < r.time
-}
-
 // The transactions that committed later than a time, into a column; how many entries it has.
 pub(crate) fn late_numbers(journal: &[u8], used: usize, s: u64, numbers: &mut [u32]) -> usize
     requires { ⌜ (used * recordBytes ≤ length (now journal)) × (used ≤ length (now numbers)) ⌝ }
@@ -88,7 +78,7 @@ pub(crate) fn late_numbers(journal: &[u8], used: usize, s: u64, numbers: &mut [u
     let mut i = 0;
     while i < used {
         let r = record::read(journal, i);
-        if is_late(r, s) {
+        if times::is_late(r, s) {
             numbers[count] = r.transaction;
             count += 1;
         }

@@ -6,6 +6,8 @@ ghost use mathlib.Core.Bool.{_&&_};
 ghost use lib.Dec.{leb, ltb};
 ghost use Rattle.rules.specs.Kinds.{recordBytes, isCommit};
 ghost use Rattle.rules.specs.Times.{lastStep, aboveStep, last as lastIn, next as nextIn};
+ghost use Rattle.rules.specs.Transactions.{any};
+ghost use Rattle.rules.specs.Checkpoints.{late};
 ghost use Rattle.record.specs.Bytes.{newest};
 ghost use Rattle.journal.specs.Walks.{Above};
 use crate::Journal;
@@ -24,8 +26,8 @@ fn last_step(r: Record, best: u64) -> u64
     best
 }
 
-// The greatest of low and all commit times.
-pub fn last(journal: &[u8], used: usize, low: u64) -> u64
+// The greatest of low and all commit times, record by record.
+fn greatest(journal: &[u8], used: usize, low: u64) -> u64
     requires { ⌜ used * recordBytes ≤ length (now journal) ⌝ }
     ensures { λ r. ⌜ r ≡ lastIn low (newest used (now (journal .entry))) ⌝ }
 {
@@ -36,6 +38,61 @@ pub fn last(journal: &[u8], used: usize, low: u64) -> u64
         i += 1;
     }
     best
+}
+
+// The time of the newest commit, at least low.
+fn newest_time(journal: &[u8], used: usize, low: u64) -> u64
+    requires { ⌜ used * recordBytes ≤ length (now journal) ⌝ }
+    ensures { λ t. ⌜ (low ≤ t) × (t ≤ lastIn low (newest used (now (journal .entry)))) ⌝ }
+{
+    let mut i = used;
+    while i > 0 {
+        i -= 1;
+        let r = record::read(journal, i);
+        if r.kind == Record::COMMIT {
+            return last_step(r, low);
+        }
+    }
+    low
+}
+
+// Whether a record is a commit later than a time.
+pub(crate) fn is_late(r: Record, s: u64) -> bool
+    ensures { λ b. ⌜ b ≡ late s r ⌝ }
+{
+    if r.kind != Record::COMMIT {
+        return false;
+    }
+    s < r.time
+}
+
+// Whether some commit is later than a time.
+fn is_passed(journal: &[u8], used: usize, t: u64) -> bool
+    requires { ⌜ used * recordBytes ≤ length (now journal) ⌝ }
+    ensures { λ b. ⌜ b ≡ any (late t) (newest used (now (journal .entry))) ⌝ }
+{
+    let mut found = false;
+    let mut i = 0;
+    while i < used {
+        if is_late(record::read(journal, i), t) {
+            found = true;
+        }
+        i += 1;
+    }
+    found
+}
+
+// The greatest of low and all commit times. Times rise in a journal that calls wrote, so that it is the newest commit's, and only to be seen that no
+// other is later.
+pub fn last(journal: &[u8], used: usize, low: u64) -> u64
+    requires { ⌜ used * recordBytes ≤ length (now journal) ⌝ }
+    ensures { λ r. ⌜ r ≡ lastIn low (newest used (now (journal .entry))) ⌝ }
+{
+    let t = newest_time(journal, used, low);
+    if is_passed(journal, used, t) {
+        return greatest(journal, used, low);
+    }
+    t
 }
 
 // Whether a record is a commit at or after a time.

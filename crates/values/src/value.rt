@@ -60,21 +60,27 @@ fn kept_effects(
     v
 }
 
-// The value of k at t; start is the value of its base row.
-pub fn value(journal: &[u8], used: usize, start: Value, k: u32, t: u64) -> Value
-    requires { ⌜ Records (now journal) used ⌝ }
+// The value of k at t, with three columns for the key's updates.
+fn value_by(
+    journal: &[u8],
+    used: usize,
+    start: Value,
+    k: u32,
+    t: u64,
+    transactions: &mut [u32],
+    kinds: &mut [u8],
+    amounts: &mut [u32],
+) -> Value
+    requires { ⌜ Records (now journal) used × Kept (now transactions) (now kinds) (now amounts) used ⌝ }
     ensures { λ v. ⌜ v ≡ valueIn start k t (newest used (now (journal .entry))) ⌝ }
 {
-    let mut transactions = [0u32; Journal::RECORDS];
-    let mut kinds = [0u8; Journal::RECORDS];
-    let mut amounts = [0u32; Journal::RECORDS];
     let mut n = 0;
     let mut v = start;
     let mut i = 0;
     while i < used {
         let r = record::read(journal, i);
         if r.settles(t) {
-            v = kept_effects(&transactions, &kinds, &amounts, n, r.transaction, v);
+            v = kept_effects(transactions, kinds, amounts, n, r.transaction, v);
         }
         if writes(r, k) {
             transactions[n] = r.transaction;
@@ -85,6 +91,44 @@ pub fn value(journal: &[u8], used: usize, start: Value, k: u32, t: u64) -> Value
         i += 1;
     }
     v
+}
+
+// How many records a short journal has at the most.
+const FEW: usize = 64;
+
+// The value of k at t; start is the value of its base row. A short journal gets short columns: to zero long ones would take longer than the pass.
+pub fn value(journal: &[u8], used: usize, start: Value, k: u32, t: u64) -> Value
+    requires { ⌜ Records (now journal) used ⌝ }
+    ensures { λ v. ⌜ v ≡ valueIn start k t (newest used (now (journal .entry))) ⌝ }
+{
+    if used <= FEW {
+        let mut transactions = [0u32; FEW];
+        let mut kinds = [0u8; FEW];
+        let mut amounts = [0u32; FEW];
+        return value_by(
+            journal,
+            used,
+            start,
+            k,
+            t,
+            &mut transactions,
+            &mut kinds,
+            &mut amounts,
+        );
+    }
+    let mut transactions = [0u32; Journal::RECORDS];
+    let mut kinds = [0u8; Journal::RECORDS];
+    let mut amounts = [0u32; Journal::RECORDS];
+    value_by(
+        journal,
+        used,
+        start,
+        k,
+        t,
+        &mut transactions,
+        &mut kinds,
+        &mut amounts,
+    )
 }
 
 // One record more: its effect on the key where it is the transaction's.

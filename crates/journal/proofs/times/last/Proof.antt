@@ -1,60 +1,34 @@
--- `journal::times::last` meets its contract. The loop's invariant: best is last of the records passed. Assumes nothing.
-use mathlib.Core.Path.{_≡_, refl}
-use Prim.Native.Nat.{_≤_, _-_}
+-- `journal::times::last` meets its contract: a time that is no later than last, and that no commit is later than, is last. Assumes nothing.
+use mathlib.Core.Path.{_≡_, sym, _∙_}
+use Prim.Native.Nat.{_≤_}
 use native.Mathlib.Omega.{arith}
 use borrow.Author.Needs.{needs}
 use denote.Ref.{now}
-use Rattle.rules.specs.Times.{last, lastStep}
 use Rattle.record.specs.Bytes.{newest}
-use Rattle.record.specs.Walks.{turn, finish}
+use Rattle.journal.specs.Past.{last-past}
 use Rattle.journal.proofs.times.last.Statement.{statement}
 use Rattle.journal.proofs.times.last.Tie as tie
 
-abbrev Inv-loop : tie.InvT-loop
-Inv-loop journal used low best₀ i₀ best i = (i ≤ used) × (best ≡ last low (newest i journal))
+newest-time-requires : tie.Need-newest-time-requires
+newest-time-requires c κs = search needs
 
-abbrev μ-loop : tie.MeasureT-loop
-μ-loop journal used low best₀ i₀ best i = used - i
+is-passed-requires : tie.Need-is-passed-requires
+is-passed-requires c κs = search needs
 
-loop-holds : tie.Need-loop-holds Inv-loop μ-loop
-loop-holds c = search needs
+greatest-requires : tie.Need-greatest-requires
+greatest-requires c κs = search needs
 
-read-requires : tie.Need-read-requires Inv-loop μ-loop
-read-requires c κs = search needs
+returns : tie.Need-returns
+returns c = search needs
 
-last-step-requires : tie.Need-last-step-requires Inv-loop μ-loop
-last-step-requires c κs = search needs
-
-add-i : tie.Need-add-i Inv-loop μ-loop
-add-i c = search needs
-
-loop-less : tie.Need-loop-less Inv-loop μ-loop
-loop-less c = search needs
-
-loop-again : tie.Need-loop-again Inv-loop μ-loop
-loop-again c =
-    let l = c .before .before .before .loop in
-    let a = c .before .before .before .before .before .args in (
-      omega arith,
-      turn (last (a .low)) lastStep (λ r rs. refl) (now (a .journal)) (l .i) _ _ _ (c .last-step .ensures) (c .before .read .ensures) (l .inv .1),
-    )
-
-returns : tie.Need-returns Inv-loop μ-loop
-returns c =
-    let l = c .before .loop in
-    let a = c .before .before .before .args in
-    finish (last (a .low)) (now (a .journal)) (l .i) (a .used) _ (l .inv .1) (omega arith)
+returns-2 : tie.Need-returns-2
+returns-2 c =
+    let p = c .before in
+    let t = p .before in
+    let a = t .before .before .args in
+    let l = last-past (a .low) _ (newest (a .used) (now (a .journal))) (t .newest-time .ensures .0) (sym (p .is-passed .ensures) ∙ c .if1 .left) in
+    omega (arith, t .newest-time .ensures .1)
 
 pub last-spec : {M : Type 1} → statement M
 last-spec =
-    tie.close
-    (tie.spec
-    Inv-loop
-    μ-loop
-    loop-holds
-    read-requires
-    last-step-requires
-    add-i
-    loop-less
-    loop-again
-    returns)
+    tie.close (tie.spec newest-time-requires is-passed-requires greatest-requires returns returns-2)

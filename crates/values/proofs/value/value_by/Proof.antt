@@ -1,4 +1,4 @@
--- `values::value` meets its contract. The loop's invariant says what the kept updates do and not what they hold: for every transaction they do
+-- `values::value::value_by` meets its contract. The loop's invariant says what the kept updates do and not what they hold: for every transaction they do
 -- what the first i records do to the key; and v is the value of the first i records. The measure is how many are left. Assumes nothing.
 use mathlib.Core.Path.{_≡_, refl, sym, _∙_}
 use mathlib.Core.Bool.{true, false, _&&_}
@@ -19,10 +19,10 @@ use Rattle.rules.specs.Transactions.{of}
 use Rattle.rules.specs.Values.{settle, value}
 use Rattle.record.specs.Bytes.{newest, recordAt}
 use Rattle.record.specs.Walks.{finish}
-use Rattle.values.specs.Pass.{mostRecords, keptStep, keptEffects}
+use Rattle.values.specs.Pass.{keptStep, keptEffects}
 use Rattle.values.specs.PassLaws.{kept-more, effects-more, effects-none}
-use Rattle.values.proofs.value.value.Statement.{statement}
-use Rattle.values.proofs.value.value.Tie as tie
+use Rattle.values.proofs.value.value_by.Statement.{statement}
+use Rattle.values.proofs.value.value_by.Tie as tie
 
 -- the kept updates do what the records do to the key
 abbrev Does : ℕ → List Record → List ℕ → List ℕ → List ℕ → ℕ → Type 0
@@ -30,11 +30,11 @@ Does k rs transactions kinds amounts n =
     (m : ℕ) (x : Value) → keptEffects transactions kinds amounts m n x ≡ effects k (of m rs) x
 
 -- before the record at i
-record Pass (j : List ℕ) (start : Value) (k t i : ℕ) (transactions kinds amounts : List ℕ) (n : ℕ) (v : Value) : Type 0 where
+record Pass (j : List ℕ) (start : Value) (k t i : ℕ) (transactions₀ kinds₀ amounts₀ transactions kinds amounts : List ℕ) (n : ℕ) (v : Value) : Type 0 where
   few : n ≤ i
-  transactions-room : length transactions ≡ mostRecords
-  kinds-room : length kinds ≡ mostRecords
-  amounts-room : length amounts ≡ mostRecords
+  transactions-room : length transactions ≡ length transactions₀
+  kinds-room : length kinds ≡ length kinds₀
+  amounts-room : length amounts ≡ length amounts₀
   does : Does k (newest i j) transactions kinds amounts n
   is : v ≡ value start k t (newest i j)
 
@@ -68,7 +68,7 @@ module _ (j : List ℕ) (start : Value) (k t i : ℕ) (r : Record) (e : r ≡ re
 
 abbrev Inv-loop : tie.InvT-loop
 Inv-loop journal used k t transactions₀ kinds₀ amounts₀ n₀ v₀ i₀ transactions kinds amounts n v i =
-    (i ≤ used) × Pass journal v₀ k t i transactions kinds amounts n v
+    (i ≤ used) × Pass journal v₀ k t i transactions₀ kinds₀ amounts₀ transactions kinds amounts n v
 
 abbrev μ-loop : tie.MeasureT-loop
 μ-loop journal used k t transactions₀ kinds₀ amounts₀ n₀ v₀ i₀ transactions kinds amounts n v i = used - i
@@ -92,15 +92,6 @@ read-requires c κs = search needs
 settles-requires : tie.Need-settles-requires Inv-loop μ-loop
 settles-requires c κs = search needs
 
-slice-aggregate-kept-effects : tie.Need-slice-aggregate-kept-effects Inv-loop μ-loop
-slice-aggregate-kept-effects c = search needs
-
-slice-aggregate-kept-effects-2 : tie.Need-slice-aggregate-kept-effects-2 Inv-loop μ-loop
-slice-aggregate-kept-effects-2 c = search needs
-
-slice-aggregate-kept-effects-3 : tie.Need-slice-aggregate-kept-effects-3 Inv-loop μ-loop
-slice-aggregate-kept-effects-3 c = search needs
-
 kept-effects-requires : tie.Need-kept-effects-requires Inv-loop μ-loop
 kept-effects-requires c κs = search needs
 
@@ -110,17 +101,17 @@ writes-requires c κs = search needs
 mul-transactions : tie.Need-mul-transactions Inv-loop μ-loop
 mul-transactions c = search needs
 
-array-write-transactions : tie.Need-array-write-transactions Inv-loop μ-loop
-array-write-transactions c = search needs
+slice-write-transactions : tie.Need-slice-write-transactions Inv-loop μ-loop
+slice-write-transactions c = search needs
 
-array-write-kinds : tie.Need-array-write-kinds Inv-loop μ-loop
-array-write-kinds c = search needs
+slice-write-kinds : tie.Need-slice-write-kinds Inv-loop μ-loop
+slice-write-kinds c = search needs
 
 mul-amounts : tie.Need-mul-amounts Inv-loop μ-loop
 mul-amounts c = search needs
 
-array-write-amounts : tie.Need-array-write-amounts Inv-loop μ-loop
-array-write-amounts c = search needs
+slice-write-amounts : tie.Need-slice-write-amounts Inv-loop μ-loop
+slice-write-amounts c = search needs
 
 add-n : tie.Need-add-n Inv-loop μ-loop
 add-n c = search needs
@@ -135,7 +126,8 @@ loop-again : tie.Need-loop-again Inv-loop μ-loop
 loop-again c =
     let j1 = c .before .before in
     let l = j1 .before .before .before .before .loop in
-    let a = j1 .before .before .before .before .before .before .args in
+    let q = j1 .before .before .before .before .before .before .before .before .before in
+    let a = q .args in
     let y = l .inv .1 in
     let e = j1 .before .before .read .ensures in
     let o = sym (c .before .writes .ensures) in
@@ -152,7 +144,8 @@ loop-again c =
             ⊎-elim
             (λ w.
             kept j (a .start) (a .k) (a .t) (l .i) _ e (l .transactions) (l .kinds) (l .amounts) (l .n) (y .does) _ _ _ _ (w .1) (w .2) (w .3) (w .4)
-            (omega arith) (omega arith) (omega arith) (o ∙ w .0 .taken))
+            (omega (arith, y .few, y .transactions-room, q .pre .1 .in-transactions)) (omega (arith, y .few, y .kinds-room, q .pre .1 .in-kinds))
+            (omega (arith, y .few, y .amounts-room, q .pre .1 .in-amounts)) (o ∙ w .0 .taken))
             (λ w.
             passed j (a .start) (a .k) (a .t) (l .i) _ e (l .transactions) (l .kinds) (l .amounts) (l .n) (y .does) _ _ _ _ (w .1) (w .2) (w .3) (w .4)
             (o ∙ w .0 .left))
@@ -165,14 +158,23 @@ loop-again c =
       },
     )
 
+same-length : tie.Need-same-length Inv-loop μ-loop
+same-length c = c .before .loop .inv .1 .transactions-room
+
+same-length-2 : tie.Need-same-length-2 Inv-loop μ-loop
+same-length-2 c = c .before .loop .inv .1 .kinds-room
+
+same-length-3 : tie.Need-same-length-3 Inv-loop μ-loop
+same-length-3 c = c .before .loop .inv .1 .amounts-room
+
 returns : tie.Need-returns Inv-loop μ-loop
 returns c =
     let l = c .before .loop in
-    let a = c .before .before .before .args in
+    let a = c .before .before .before .before .before .before .args in
     finish (value (a .start) (a .k) (a .t)) (now (a .journal)) (l .i) (a .used) _ (l .inv .1 .is) (omega arith)
 
-pub value-spec : {M : Type 1} → statement M
-value-spec =
+pub value-by-spec : {M : Type 1} → statement M
+value-by-spec =
     tie.close
     (tie.spec
     Inv-loop
@@ -180,18 +182,18 @@ value-spec =
     loop-holds
     read-requires
     settles-requires
-    slice-aggregate-kept-effects
-    slice-aggregate-kept-effects-2
-    slice-aggregate-kept-effects-3
     kept-effects-requires
     writes-requires
     mul-transactions
-    array-write-transactions
-    array-write-kinds
+    slice-write-transactions
+    slice-write-kinds
     mul-amounts
-    array-write-amounts
+    slice-write-amounts
     add-n
     add-i
     loop-less
     loop-again
+    same-length
+    same-length-2
+    same-length-3
     returns)

@@ -1,7 +1,7 @@
--- `journal::conflicts::is_late` meets its contract: the tests are the definition's. Assumes nothing.
+-- `journal::times::is_late` meets its contract: the tests are the definition's. Assumes nothing.
 use borrow.Author.Tests.{eq-eqb, ne-eqb}
-use Rattle.journal.proofs.conflicts.is_late.Statement.{statement}
-use Rattle.journal.proofs.conflicts.is_late.Tie as tie
+use Rattle.journal.proofs.times.is_late.Statement.{statement}
+use Rattle.journal.proofs.times.is_late.Tie as tie
 
 returns : tie.Need-returns
 returns c = simp (ne-eqb _ _ (c .if1 .taken))

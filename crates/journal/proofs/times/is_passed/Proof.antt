@@ -1,0 +1,70 @@
+-- `journal::times::is_passed` meets its contract. The loop's invariant: whether some record passed is a later commit. Assumes nothing.
+use mathlib.Core.Path.{_≡_}
+use mathlib.Core.Logic.{⊎-elim}
+use Prim.Native.Nat.{_≤_, _-_, _+_}
+use Rattle.rules.specs.Transactions.{any}
+use Rattle.rules.specs.Checkpoints.{late}
+use Rattle.record.specs.Bytes.{newest}
+use Rattle.record.specs.Walks.{onward, finish}
+use Rattle.journal.specs.Walks.{any-met, any-other}
+use borrow.Author.Needs.{needs}
+use native.Mathlib.Omega.{arith}
+use denote.Ref.{now}
+use Rattle.journal.proofs.times.is_passed.Statement.{statement}
+use Rattle.journal.proofs.times.is_passed.Tie as tie
+
+abbrev Inv-loop : tie.InvT-loop
+Inv-loop journal used t found₀ i₀ found i = (i ≤ used) × (found ≡ any (late t) (newest i journal))
+
+abbrev μ-loop : tie.MeasureT-loop
+μ-loop journal used t found₀ i₀ found i = used - i
+
+loop-holds : tie.Need-loop-holds Inv-loop μ-loop
+loop-holds c = search needs
+
+read-requires : tie.Need-read-requires Inv-loop μ-loop
+read-requires c κs = search needs
+
+is-late-requires : tie.Need-is-late-requires Inv-loop μ-loop
+is-late-requires c κs = search needs
+
+add-i : tie.Need-add-i Inv-loop μ-loop
+add-i c = search needs
+
+loop-less : tie.Need-loop-less Inv-loop μ-loop
+loop-less c = search needs
+
+loop-again : tie.Need-loop-again Inv-loop μ-loop
+loop-again c =
+    let m = c .before in
+    let l = m .before .before .before .loop in
+    let a = m .before .before .before .before .before .args in
+    let j = now (a .journal) in
+    let p = late (a .t) in (
+      omega arith,
+      onward (λ rs. c .if1 .found ≡ any p rs) j (l .i) _ (m .before .read .ensures)
+          (⊎-elim
+          (λ w. any-met p (m .before .read .result) (newest (l .i) j) _ (m .is-late .ensures) _ (w .0 .taken) (w .1))
+          (λ w. any-other p (m .before .read .result) (newest (l .i) j) _ (m .is-late .ensures) _ _ (w .0 .left) (w .1) (l .inv .1))
+          (c .if1 .came)),
+    )
+
+returns : tie.Need-returns Inv-loop μ-loop
+returns c =
+    let l = c .before .loop in
+    let a = c .before .before .before .args in
+    finish (any (late (a .t))) (now (a .journal)) (l .i) (a .used) _ (l .inv .1) (omega arith)
+
+pub is-passed-spec : {M : Type 1} → statement M
+is-passed-spec =
+    tie.close
+    (tie.spec
+    Inv-loop
+    μ-loop
+    loop-holds
+    read-requires
+    is-late-requires
+    add-i
+    loop-less
+    loop-again
+    returns)
