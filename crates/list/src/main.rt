@@ -62,7 +62,7 @@ fn say(line: &[u8]) {
 
 // The text to standard output, and the line that belongs to it.
 fn print(text: &[u8], outcome: Outcome) {
-    if !output::write_all(STDOUT_FILENO, text) {
+    if output::write_all(STDOUT_FILENO, text) < text.len() {
         say(b"listing: the listing could not be written\n");
         return;
     }

@@ -1,4 +1,5 @@
 // Writing a whole text.
+ghost use Prim.Native.Nat.{_≤_};
 ghost use lib.ListN.{length};
 ghost use Rattle.list.specs.Moves.{Within};
 use crate::moves::Moved;
@@ -14,9 +15,11 @@ fn write_on(fd: i32, rest: &[u8]) -> Moved
     moved_by(answer, os::errno())
 }
 
-// Whether all of the text was taken. A write that takes a part is followed by one of the rest, and an interrupted one is tried again; one that
-// takes nothing would not take more the next time.
-pub fn write_all(fd: i32, text: &[u8]) -> bool {
+// How many bytes of the text were taken, fewer than all where a write failed. A write that takes a part is followed by one of the rest, and an
+// interrupted one is tried again; one that takes nothing would not take more the next time.
+pub fn write_all(fd: i32, text: &[u8]) -> usize
+    ensures { λ r. ⌜ r ≤ length (now (text .entry)) ⌝ }
+{
     let mut done = 0;
     let mut left = Moved::INTERRUPTIONS;
     while done < text.len() {
@@ -27,8 +30,8 @@ pub fn write_all(fd: i32, text: &[u8]) -> bool {
                 done = bytes;
                 left = interruptions;
             }
-            Step::Stop(_) => return false,
+            Step::Stop(_) => return done,
         }
     }
-    true
+    done
 }
