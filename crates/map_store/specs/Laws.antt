@@ -12,9 +12,11 @@ use Rattle.rules.specs.declared.Value.{Value}
 use Rattle.rules.specs.declared.Value.the-variants.{Absent, Present}
 use Rattle.rules.specs.Passed.{fitting}
 use Rattle.rules.specs.Calls.{Call, Begin, Commit}
+use Rattle.answer.specs.declared.Refusal.{Refusal}
 use Rattle.answer.specs.declared.Refusal.the-variants.{BadShape}
-use Rattle.answer.specs.Reply.{Reply, refused, told, after}
-use Rattle.answer.specs.Laws.{after-refused}
+use Rattle.answer.specs.declared.Done.the-variants as done
+use Rattle.answer.specs.Reply.{Reply, refused, accepted, ofDone, told, after}
+use Rattle.answer.specs.Laws.{refused-some, after-refused}
 use Rattle.column.specs.declared.Found.{Found}
 use Rattle.column.specs.declared.Found.the-variants.{At, Nothing}
 use Rattle.slot.specs.declared.Slots.{Slots}
@@ -24,14 +26,15 @@ use Rattle.slot.specs.Laws.{first-slot}
 use Rattle.slot.specs.Places.{free, placeOf, placeIn, placesOf, takenBy}
 use Rattle.slot.specs.PlaceLaws.{place-slot}
 use Rattle.versions.specs.Versions.{versionsOf, listAt}
-use Rattle.versions.specs.Columns.{Lent, Room}
+use Rattle.versions.specs.Columns.{Lent, Kept}
 use Rattle.versions.specs.Laws.{length-versions}
 use Rattle.map_store.specs.declared.MapHead.{MapHead}
-use Rattle.map_store.specs.Meaning.{MapStore, mapAnswer, gives, listRefusal, listAnswer, checkpointRefusal}
+use Rattle.map_store.specs.declared.Outcome.{Outcome}
+use Rattle.map_store.specs.Meaning.{MapStore, mapAnswer, gives, listAnswer, checkpointRefusal}
 use Rattle.map_store.specs.Shape.{isShaped, Shaped, roomOf, meaning}
 use Rattle.map_store.specs.Heads.{headAfter, rowsIn}
-use Rattle.map_store.specs.Contracts.{shapedNumber, number, decided, Answered, Committed, Put, listNumber, ListedAt, Written, checkpointNumber, Checkpointed, Thinned}
-use Rattle.map_store.specs.Tests.{say, begin-numbered, commit-fits}
+use Rattle.map_store.specs.Contracts.{shapedNumber, number, decided, Answered, Committed, Put, listNumber, ListedAt, Written, ListedIn, checkpointNumber, Checkpointed, Thinned}
+use Rattle.map_store.specs.Tests.{say, list-timely, begin-numbered}
 
 -- the slot that was found is the place of the transaction, and its rows are in order
 module _ (h : Slots) (n : ℕ) (f : Found) (e : f ≡ slotOf h n) where
@@ -49,6 +52,13 @@ module _ (h : Slots) (n : ℕ) (f : Found) (e : f ≡ slotOf h n) where
 pub lent : (h : MapHead) (ks ts vs : List ℕ) → Shaped h (length ks) (length ts) (length vs) → Lent (h .used) ks ts vs
 lent h ks ts vs w =
     record { keys = w .rows; times = omega (arith, w .rows, w .times); values = omega (arith, w .rows, w .values) }
+
+-- rows for which there is room behind the used ones are lent
+pub room-lent : (h : MapHead) (ks ts vs : List ℕ) → Shaped h (length ks) (length ts) (length vs) → (rows : ℕ) → h .used + rows ≤ roomOf (length ks)
+    → Lent (h .used + rows) ks ts vs
+room-lent h ks ts vs w rows l =
+    let r = min-le-right 4096 (length ks) in
+    record { keys = omega arith; times = omega (arith, w .times); values = omega (arith, w .values) }
 
 module _ (h : MapHead) (ks ts vs : List ℕ) (f : MapStore → ℕ) where
   pub number-bad : isShaped h (length ks) (length ts) (length vs) ≡ false → shapedNumber h ks ts vs f ≡ 1
@@ -91,6 +101,17 @@ module _ (c : Call) (h : MapHead) (ks ts vs : List ℕ) where
           headed = changed _ _ (gives c (meaning h ks ts vs)) q a d accepted y _ _ head p;
         }
 
+  module _ (shaped : isShaped h (length ks) (length ts) (length vs) ≡ true) (o : Outcome) where
+    -- a call that is refused changes nothing
+    pub turned-down : (x : Refusal) → (o .head ≡ h) × (o .answer ≡ done.Refused x) → refused x ≡ decided c (roomOf (length ks)) (meaning h ks ts vs)
+        → Answered c h ks ts vs (ofDone (o .answer)) (o .head)
+    turned-down x r d = rw (r .0, r .1) (answered shaped (refused x) d false (sym (refused-some x)) h refl)
+
+    -- one that is accepted leaves the head that it is to leave
+    pub carried-out : (head : MapHead) → (o .head ≡ head) × (o .answer ≡ done.Accepted) → accepted Absent ≡ decided c (roomOf (length ks)) (meaning h ks ts vs)
+        → head ≡ headAfter c h (versionsOf (h .used) ks ts vs) → Answered c h ks ts vs (ofDone (o .answer)) (o .head)
+    carried-out head r d e = rw (r .0, r .1) (answered shaped (accepted Absent) d true refl head e)
+
 -- an accepted begin has a number to give
 pub begin-next : (h : MapHead) (ks ts vs : List ℕ) (t : ℕ) (a : Reply) → a ≡ decided (Begin t) (roomOf (length ks)) (meaning h ks ts vs)
     → (accepted : Bool) → accepted ≡ eqb (a .number) 0 → accepted ≡ true → h .next < 4294967295
@@ -110,17 +131,6 @@ module _ (n t : ℕ) (h : MapHead) (ks ts vs : List ℕ) where
 
   module _ (shaped : isShaped h (length ks) (length ts) (length vs) ≡ true) (a : Reply)
       (d : a ≡ decided (Commit n t) (roomOf (length ks)) (meaning h ks ts vs)) (accepted : Bool) (y : accepted ≡ eqb (a .number) 0) where
-    -- an accepted commit has a lent row for each key
-    pub commit-lent : Shaped h (length ks) (length ts) (length vs) → accepted ≡ true
-        → Lent (h .used + length (rowsIn (h .slots) (slotOf (h .slots) n))) ks ts vs
-    commit-lent w f =
-        let z = is-accepted _ _ Absent refl a d accepted y f in
-        let fits = commit-fits (roomOf (length ks)) n t (meaning h ks ts vs) z in
-        let l : h .used + length (rowsIn (h .slots) (slotOf (h .slots) n)) ≤ roomOf (length ks) =
-        rw (length-versions (h .used) ks ts vs, place-slot (h .slots) n) at fits in
-        let r = min-le-right 4096 (length ks) in
-        record { keys = omega arith; times = omega (arith, w .times); values = omega (arith, w .values) }
-
     pub committed : (head : MapHead) (ks' ts' vs' : List ℕ) → Put n t h ks ts vs accepted head ks' ts' vs'
         → Committed n t h ks ts vs a head ks' ts' vs'
     committed head ks' ts' vs' p =
@@ -131,6 +141,17 @@ module _ (n t : ℕ) (h : MapHead) (ks ts vs : List ℕ) where
           times = changed _ _ Absent q a d accepted y _ _ ts' (p .times);
           values = changed _ _ Absent q a d accepted y _ _ vs' (p .values);
         }
+
+  module _ (shaped : isShaped h (length ks) (length ts) (length vs) ≡ true) where
+    pub commit-turned-down : (o : Outcome) (x : Refusal) → (o .head ≡ h) × (o .answer ≡ done.Refused x)
+        → refused x ≡ decided (Commit n t) (roomOf (length ks)) (meaning h ks ts vs) → Committed n t h ks ts vs (ofDone (o .answer)) (o .head) ks ts vs
+    commit-turned-down o x r d =
+        rw (r .0, r .1)
+        (committed shaped (refused x) d false (sym (refused-some x)) h ks ts vs (record { headed = refl; keys = refl; times = refl; values = refl }))
+
+    pub commit-carried-out : (head : MapHead) (ks' ts' vs' : List ℕ) → accepted Absent ≡ decided (Commit n t) (roomOf (length ks)) (meaning h ks ts vs)
+        → Put n t h ks ts vs true head ks' ts' vs' → Committed n t h ks ts vs (accepted Absent) head ks' ts' vs'
+    commit-carried-out head ks' ts' vs' d p = committed shaped (accepted Absent) d true refl head ks' ts' vs' p
 
 module _ (t : ℕ) (h : MapHead) (ks ts vs oks ovs : List ℕ) where
   -- columns of a list that are not paired, or a store of bad shape
@@ -152,13 +173,6 @@ module _ (t : ℕ) (h : MapHead) (ks ts vs oks ovs : List ℕ) where
     module _ (shaped : isShaped h (length ks) (length ts) (length vs) ≡ true) (a : Reply)
         (d : a ≡ told (listAnswer (length oks) t (meaning h ks ts vs)) (Present (length (listAt (versionsOf (h .used) ks ts vs) t))))
         (accepted : Bool) (y : accepted ≡ eqb (a .number) 0) where
-      -- an accepted list has a lent row for each key
-      pub list-lent : accepted ≡ true → Room (listAt (versionsOf (h .used) ks ts vs) t) oks ovs
-      list-lent f =
-          let z = is-accepted _ _ _ refl a d accepted y f in
-          let l = fitting (listRefusal t (meaning h ks ts vs)) (length (listAt (versionsOf (h .used) ks ts vs) t)) (length oks) z .1 in
-          record { keys = l; values = omega (arith, eqb-true (length oks) (length ovs) paired) }
-
       pub listed : (oks' ovs' : List ℕ) → Written (listAt (versionsOf (h .used) ks ts vs) t) oks ovs accepted oks' ovs'
           → ListedAt t h ks ts vs oks ovs a oks' ovs'
       listed oks' ovs' p =
@@ -169,6 +183,18 @@ module _ (t : ℕ) (h : MapHead) (ks ts vs oks ovs : List ℕ) where
             keys = changed _ _ _ q a d accepted y _ _ oks' (p .keys);
             values = changed _ _ _ q a d accepted y _ _ ovs' (p .values);
           }
+
+    module _ (shaped : isShaped h (length ks) (length ts) (length vs) ≡ true) where
+      -- a time that is refused changes nothing
+      pub list-untimely : (x : Refusal) → refused x ≡ told (listAnswer (length oks) t (meaning h ks ts vs)) (Present (length (listAt (versionsOf (h .used) ks ts vs) t)))
+          → ListedAt t h ks ts vs oks ovs (refused x) oks ovs
+      list-untimely x d = listed shaped (refused x) d false (sym (refused-some x)) oks ovs (record { keys = refl; values = refl })
+
+      -- where the time is good, what was told and written is the contract
+      pub list-timed : h .low ≤ t → t ≤ h .last → (a : Reply) (oks' ovs' : List ℕ)
+          → ListedIn (listAt (versionsOf (h .used) ks ts vs) t) oks ovs a oks' ovs' → ListedAt t h ks ts vs oks ovs a oks' ovs'
+      list-timed b c a oks' ovs' w =
+          listed shaped a (rw (list-timely (meaning h ks ts vs) t b c (length oks)) (w .reply)) (eqb (a .number) 0) refl oks' ovs' (w .written)
 
 module _ (t : ℕ) (h : MapHead) (ks ts vs : List ℕ) where
   pub checkpoint-bad-shape : isShaped h (length ks) (length ts) (length vs) ≡ false → Checkpointed t h ks ts vs (refused BadShape) h ks ts vs
@@ -194,3 +220,16 @@ module _ (t : ℕ) (h : MapHead) (ks ts vs : List ℕ) where
         times = changed _ _ Absent q a d accepted y _ _ ts' (p .times);
         values = changed _ _ Absent q a d accepted y _ _ vs' (p .values);
       }
+
+  module _ (shaped : isShaped h (length ks) (length ts) (length vs) ≡ true) where
+    pub checkpoint-turned-down : (o : Outcome) (x : Refusal) → (o .head ≡ h) × (o .answer ≡ done.Refused x)
+        → refused x ≡ told (checkpointRefusal t (meaning h ks ts vs)) Absent → Checkpointed t h ks ts vs (ofDone (o .answer)) (o .head) ks ts vs
+    checkpoint-turned-down o x r d =
+        rw (r .0, r .1)
+        (checkpointed shaped (refused x) d false (sym (refused-some x)) h ks ts vs (record { headed = refl; keys = refl; times = refl; values = refl }))
+
+    pub checkpoint-carried-out : (ks' ts' vs' : List ℕ) (r : ℕ) → accepted Absent ≡ told (checkpointRefusal t (meaning h ks ts vs)) Absent
+        → Kept t (h .used) ks ts vs ks' ts' vs' r
+        → Checkpointed t h ks ts vs (accepted Absent) (record { low = t; last = h .last; next = h .next; used = r; slots = h .slots }) ks' ts' vs'
+    checkpoint-carried-out ks' ts' vs' r d w =
+        checkpointed shaped (accepted Absent) d true refl _ ks' ts' vs' (record { headed = rw (w .count); keys = w .keys; times = w .times; values = w .values })

@@ -1,12 +1,12 @@
 -- What the tests of a call, made in section 6's order, let it answer: on any store, one law for each way out. Assumes nothing.
 use mathlib.Core.Path.{_≡_, refl, sym, ap, _∙_}
-use mathlib.Core.Bool.{Bool, true, false, cond}
+use mathlib.Core.Bool.{Bool, true, false, cond, not, _||_}
 use mathlib.Core.List.{List}
 use Prim.Native.Nat.{ℕ, _+_, _<_, _≤_}
 use native.Mathlib.Omega.{arith}
 use lib.Dec.{eqb, leb, ltb}
 use lib.ListN.{length}
-use borrow.Author.Tests.{lt-ltb, le-ltb, le-leb, lt-leb, eq-eqb, ne-eqb, leb-true, leb-false, eqb-true, eqb-false}
+use borrow.Author.Tests.{lt-ltb, le-ltb, le-leb, lt-leb, eq-eqb, ne-eqb, leb-true, leb-false, eqb-true, eqb-false, not-true, not-false}
 use Rattle.rules.specs.declared.Value.{Value}
 use Rattle.rules.specs.declared.Effect.{Effect}
 use Rattle.rules.specs.Bools.{split}
@@ -55,12 +55,8 @@ module _ (m : MapStore) (t : ℕ) where
       pub checkpoint-done : x ≡ false → checkpointRefusal t m ≡ 0
       checkpoint-done f = time-inside _ a b ∙ rw (sym e ∙ f)
 
-    module _ (room count : ℕ) (e : count ≡ length (listAt (m .versions) t)) where
-      pub list-room : room < count → listAnswer room t m ≡ 12
-      list-room l = rw (time-inside 0 a b, ← e, lt-leb count room l)
-
-      pub list-done : count ≤ room → listAnswer room t m ≡ 0
-      list-done l = rw (time-inside 0 a b, ← e, le-leb count room l)
+    pub list-timely : (room : ℕ) → listAnswer room t m ≡ withRoom 0 (length (listAt (m .versions) t)) room
+    list-timely room = rw (time-inside 0 a b)
 
   pub list-old : (room : ℕ) → t < m .low → listAnswer room t m ≡ 4
   list-old room a = rw (time-old 0 a)
@@ -115,15 +111,12 @@ module _ (m : MapStore) (n : ℕ) where
         pub update-key : k ≡ 0 → mapRefusal (Update n k e) m ≡ 3
         update-key z = rw (p, eq-eqb k 0 z)
 
-        module _ (z : k ≡ 0 → ⊥) (b : Bool) (d : b ≡ hasKey k rows) where
-          pub update-again : b ≡ true → mapRefusal (Update n k e) m ≡ 0
-          update-again f = rw (p, ne-eqb k 0 z, sym d ∙ f)
+        module _ (z : k ≡ 0 → ⊥) (b : Bool) (d : b ≡ not (hasKey k rows || ltb (length rows) 32)) where
+          pub update-full : b ≡ true → mapRefusal (Update n k e) m ≡ 8
+          update-full f = rw (p, ne-eqb k 0 z, not-true (hasKey k rows || ltb (length rows) 32) (sym d ∙ f))
 
-          pub update-full : b ≡ false → 32 ≤ length rows → mapRefusal (Update n k e) m ≡ 8
-          update-full f l = rw (p, ne-eqb k 0 z, sym d ∙ f, le-ltb (length rows) 32 l)
-
-          pub update-new : b ≡ false → length rows < 32 → mapRefusal (Update n k e) m ≡ 0
-          update-new f l = rw (p, ne-eqb k 0 z, sym d ∙ f, lt-ltb (length rows) 32 l)
+          pub update-fits : b ≡ false → mapRefusal (Update n k e) m ≡ 0
+          update-fits f = rw (p, ne-eqb k 0 z, not-false (hasKey k rows || ltb (length rows) 32) (sym d ∙ f))
 
     module _ (room t : ℕ) where
       pub commit-later : t ≤ m .last → mapAnswer room (Commit n t) m ≡ 10

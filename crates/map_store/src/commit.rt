@@ -1,20 +1,16 @@
 // Commit: the running values of a transaction become versions at a time later than last. Refusals 1, 2, 10, 11, 12.
 ghost use mathlib.Core.Path.{_≡_};
-ghost use mathlib.Core.Bool.{true, not};
+ghost use mathlib.Core.Bool.{not};
 ghost use mathlib.Core.List.{List};
 ghost use Prim.Native.Nat.{ℕ, _+_, _≤_, _<_};
 ghost use lib.ListN.{length, getD};
-ghost use Rattle.rules.specs.Calls.{Commit};
 ghost use Rattle.answer.specs.Reply.{ofDone};
 ghost use Rattle.slot.specs.Formed.{Rowed};
 ghost use Rattle.slot.specs.Places.{hasKey, rowsOf, slotRows};
-ghost use Rattle.slot.specs.Slots.{slotOf};
 ghost use Rattle.versions.specs.Versions.{versionsOf};
 ghost use Rattle.versions.specs.Columns.{Lent};
 ghost use Rattle.map_store.specs.Meaning.{firsts, clash};
-ghost use Rattle.map_store.specs.Shape.{Shaped, meaning, roomOf};
-ghost use Rattle.map_store.specs.Heads.{rowsIn};
-ghost use Rattle.map_store.specs.Contracts.{decided, Committed, Stamped, Put};
+ghost use Rattle.map_store.specs.Contracts.{Committed, Stamped};
 use crate::MapHead;
 use crate::Outcome;
 use answer::Done;
@@ -60,38 +56,15 @@ fn conflicts(s: Slot, keys: &[u32], times: &[u64], used: usize) -> bool
 {
     let written = s.keys;
     let rows = s.count;
+    let from = versions::first_late(times, used, s.snapshot);
     let mut i = 0;
     while i < rows {
-        if versions::is_later(keys, times, used, written[i], s.snapshot) {
+        if versions::is_later(keys, times, from, used, written[i], s.snapshot) {
             return true;
         }
         i += 1;
     }
     false
-}
-
-// What a store of good shape answers.
-fn decide(h: MapHead, keys: &[u32], times: &[u64], values: &[u32], n: u32, t: u64) -> Done
-    requires { ⌜ Shaped h (length (now keys)) (length (now times)) (length (now values)) ⌝ }
-    ensures { λ r. ⌜ ofDone r ≡ decided (Commit n t) (roomOf (length (now (keys .entry)))) (meaning h (now (keys .entry)) (now (times .entry)) (now (values .entry))) ⌝ }
-{
-    let slots = h.slots;
-    match slots.find(n) {
-        Found::At(i) => {
-            if t <= h.last {
-                return Done::Refused(Refusal::NotLater);
-            }
-            let s = slots.at(i);
-            if conflicts(s, keys, times, h.used) {
-                return Done::Refused(Refusal::Conflict);
-            }
-            if crate::room(keys.len()) < h.used + count_written(s) {
-                return Done::Refused(Refusal::NoRoom);
-            }
-            Done::Accepted
-        }
-        Found::Nothing => Done::Refused(Refusal::UnknownTransaction),
-    }
 }
 
 // Rule 3.8: a version at t for each key of a slot, in order of first update, with its running value. Answers how many versions are used then.
@@ -121,38 +94,6 @@ fn stamp(
     at
 }
 
-// The versions written, last moved and the transaction's slot freed, if the call was accepted.
-fn put(
-    h: MapHead,
-    keys: &mut [u32],
-    times: &mut [u64],
-    values: &mut [u32],
-    accepted: bool,
-    n: u32,
-    t: u64,
-) -> MapHead
-    requires { ⌜ Shaped h (length (now keys)) (length (now times)) (length (now values)) × (accepted ≡ true → Lent (h .used + length (rowsIn (h .slots) (slotOf (h .slots) n))) (now keys) (now times) (now values)) ⌝ }
-    ensures { λ r. ⌜ Put n t h (now (keys .entry)) (now (times .entry)) (now (values .entry)) accepted r (now (keys .exit)) (now (times .exit)) (now (values .exit)) ⌝ }
-{
-    if !accepted {
-        return h;
-    }
-    let slots = h.slots;
-    match slots.find(n) {
-        Found::At(i) => {
-            let used = stamp(slots.at(i), keys, times, values, h.used, t);
-            MapHead {
-                low: h.low,
-                last: t,
-                next: h.next,
-                used: used,
-                slots: slots.closed(i),
-            }
-        }
-        Found::Nothing => h,
-    }
-}
-
 // Commits a running transaction at t.
 pub fn commit(
     h: MapHead,
@@ -165,12 +106,32 @@ pub fn commit(
     ensures { λ r. ⌜ Committed n t h (now (keys .entry)) (now (times .entry)) (now (values .entry)) (ofDone (r .answer)) (r .head) (now (keys .exit)) (now (times .exit)) (now (values .exit)) ⌝ }
 {
     if !crate::shaped(h, keys.len(), times.len(), values.len()) {
-        return Outcome {
-            head: h,
-            answer: Done::Refused(Refusal::BadShape),
-        };
+        return crate::refused(h, Refusal::BadShape);
     }
-    let answer = decide(h, keys, times, values, n, t);
-    let head = put(h, keys, times, values, answer.accepted(), n, t);
-    Outcome { head, answer }
+    let slots = h.slots;
+    let found = slots.find(n);
+    let Found::At(i) = found else {
+        return crate::refused(h, Refusal::UnknownTransaction);
+    };
+    if t <= h.last {
+        return crate::refused(h, Refusal::NotLater);
+    }
+    let s = slots.slots[i];
+    if conflicts(s, keys, times, h.used) {
+        return crate::refused(h, Refusal::Conflict);
+    }
+    if crate::room(keys.len()) < h.used + count_written(s) {
+        return crate::refused(h, Refusal::NoRoom);
+    }
+    let used = stamp(s, keys, times, values, h.used, t);
+    Outcome {
+        head: MapHead {
+            low: h.low,
+            last: t,
+            next: h.next,
+            used: used,
+            slots: slots.closed(i),
+        },
+        answer: Done::Accepted,
+    }
 }

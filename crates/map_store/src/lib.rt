@@ -7,9 +7,11 @@ ghost use Rattle.slot.specs.Places.{slotRows};
 ghost use Rattle.versions.specs.Columns.{Lent};
 ghost use Rattle.versions.specs.Versions.{versionsOf};
 ghost use Rattle.map_store.specs.Meaning.{current};
+ghost use Rattle.map_store.specs.Heads.{withSlots};
 ghost use Rattle.map_store.specs.Shape.{emptyHead, isShaped, Shaped, roomOf};
 use answer::Begun;
 use answer::Done;
+use answer::Refusal;
 use column::Found;
 use rules::Value;
 use slot::Slot;
@@ -89,6 +91,32 @@ fn shaped(h: MapHead, keys: usize, times: usize, values: usize) -> bool
     }
     let slots = h.slots;
     slots.shaped()
+}
+
+// A call that is refused changes nothing.
+fn refused(h: MapHead, why: Refusal) -> Outcome
+    ensures { λ r. ⌜ (r .head ≡ h) × (r .answer ≡ Done.Refused why) ⌝ }
+{
+    Outcome {
+        head: h,
+        answer: Done::Refused(why),
+    }
+}
+
+// A call that is accepted and changes the slots alone.
+fn accepted(h: MapHead, slots: Slots) -> Outcome
+    ensures { λ r. ⌜ (r .head ≡ withSlots h slots) × (r .answer ≡ Done.Accepted) ⌝ }
+{
+    Outcome {
+        head: MapHead {
+            low: h.low,
+            last: h.last,
+            next: h.next,
+            used: h.used,
+            slots: slots,
+        },
+        answer: Done::Accepted,
+    }
 }
 
 // How many versions the lent columns have room for, at most the limit.

@@ -1,64 +1,98 @@
 // List: every key that has a value at a time from low to last, rising, with its value. Refusals 1, 4, 5, 12.
 ghost use mathlib.Core.Path.{_≡_};
-ghost use mathlib.Core.Bool.{true};
-ghost use lib.Dec.{eqb};
+ghost use Prim.Native.Nat.{_≤_, _<_};
 ghost use lib.ListN.{length};
-ghost use Rattle.rules.specs.declared.Value.the-variants.{Present};
-ghost use Rattle.answer.specs.Reply.{ofListed, told};
+ghost use Rattle.answer.specs.Reply.{ofListed};
 ghost use Rattle.versions.specs.Versions.{versionsOf, listAt};
-ghost use Rattle.versions.specs.Columns.{Room};
-ghost use Rattle.map_store.specs.Meaning.{listAnswer};
-ghost use Rattle.map_store.specs.Shape.{Shaped, meaning};
-ghost use Rattle.map_store.specs.Contracts.{ListedAt, Written};
+ghost use Rattle.versions.specs.Columns.{Lent};
+ghost use Rattle.table.specs.Table.{Spare};
+ghost use Rattle.map_store.specs.Contracts.{ListedAt, ListedIn};
 use crate::MapHead;
 use answer::Listed;
 use answer::Refusal;
+use versions::Version;
 
-// What a store of good shape answers where so many rows are lent.
-fn decide(h: MapHead, keys: &[u32], times: &[u64], values: &[u32], t: u64, rows: usize) -> Listed
-    requires { ⌜ Shaped h (length (now keys)) (length (now times)) (length (now values)) ⌝ }
-    ensures { λ r. ⌜ ofListed r ≡ told (listAnswer rows t (meaning h (now (keys .entry)) (now (times .entry)) (now (values .entry)))) (Present (length (listAt (versionsOf (h .used) (now (keys .entry)) (now (times .entry)) (now (values .entry))) t))) ⌝ }
-{
-    if t < h.low {
-        return Listed::Refused(Refusal::TooOld);
-    }
-    if h.last < t {
-        return Listed::Refused(Refusal::Future);
-    }
-    let count = versions::count_listed(keys, times, h.used, t);
-    if rows < count {
-        return Listed::Refused(Refusal::NoRoom);
-    }
-    Listed::Rows(count)
-}
-
-// Whether the call was accepted.
-fn accepted(answer: Listed) -> bool
-    ensures { λ r. ⌜ r ≡ eqb (ofListed answer .number) 0 ⌝ }
-{
-    match answer {
-        Listed::Rows(_) => true,
-        Listed::Refused(_) => false,
-    }
-}
-
-// The list in the lent rows, if the call was accepted.
-fn fill(
-    h: MapHead,
+// The list of the first versions at t: computed in two columns aside, and copied where the lent ones have a row for each of its own.
+fn write(
     keys: &[u32],
     times: &[u64],
     values: &[u32],
-    accepted: bool,
+    used: usize,
+    t: u64,
+    listed: &mut [u32],
+    contents: &mut [u32],
+    out_keys: &mut [u32],
+    out_values: &mut [u32],
+) -> Listed
+    requires { do ⌜ Lent used (now keys) (now times) (now values) × (used ≤ (← ⟦Version::ROWS⟧)) × Spare (now listed) (now contents) used × (length (now «out_keys») ≡ length (now «out_values»)) ⌝ }
+    ensures { λ r. ⌜ ListedIn (listAt (versionsOf used (now (keys .entry)) (now (times .entry)) (now (values .entry))) t) (now («out_keys» .entry)) (now («out_values» .entry)) (ofListed r) (now («out_keys» .exit)) (now («out_values» .exit)) ⌝ }
+{
+    let count = newest::listing(keys, times, values, used, t, listed, contents);
+    if out_keys.len() < count {
+        return Listed::Refused(Refusal::NoRoom);
+    }
+    column::copy(listed, count, out_keys);
+    column::copy(contents, count, out_values);
+    Listed::Rows(count)
+}
+
+// The same of few versions, so that small columns are enough.
+fn write_few(
+    keys: &[u32],
+    times: &[u64],
+    values: &[u32],
+    used: usize,
     t: u64,
     out_keys: &mut [u32],
     out_values: &mut [u32],
-)
-    requires { ⌜ Shaped h (length (now keys)) (length (now times)) (length (now values)) × (accepted ≡ true → Room (listAt (versionsOf (h .used) (now keys) (now times) (now values)) t) (now «out_keys») (now «out_values»)) ⌝ }
-    ensures { λ _. ⌜ Written (listAt (versionsOf (h .used) (now (keys .entry)) (now (times .entry)) (now (values .entry))) t) (now («out_keys» .entry)) (now («out_values» .entry)) accepted (now («out_keys» .exit)) (now («out_values» .exit)) ⌝ }
+) -> Listed
+    requires { do ⌜ Lent used (now keys) (now times) (now values) × (used < (← ⟦Version::FEW⟧)) × (length (now «out_keys») ≡ length (now «out_values»)) ⌝ }
+    ensures { λ r. ⌜ ListedIn (listAt (versionsOf used (now (keys .entry)) (now (times .entry)) (now (values .entry))) t) (now («out_keys» .entry)) (now («out_values» .entry)) (ofListed r) (now («out_keys» .exit)) (now («out_values» .exit)) ⌝ }
 {
-    if accepted {
-        versions::fill_list(keys, times, values, h.used, t, out_keys, out_values);
+    let mut listed = [0u32; Version::FEW];
+    let mut contents = [0u32; Version::FEW];
+    write(
+        keys,
+        times,
+        values,
+        used,
+        t,
+        &mut listed,
+        &mut contents,
+        out_keys,
+        out_values,
+    )
+}
+
+// The same of any number of versions.
+fn write_any(
+    keys: &[u32],
+    times: &[u64],
+    values: &[u32],
+    used: usize,
+    t: u64,
+    out_keys: &mut [u32],
+    out_values: &mut [u32],
+) -> Listed
+    requires { do ⌜ Lent used (now keys) (now times) (now values) × (used ≤ (← ⟦Version::ROWS⟧)) × (length (now «out_keys») ≡ length (now «out_values»)) ⌝ }
+    ensures { λ r. ⌜ ListedIn (listAt (versionsOf used (now (keys .entry)) (now (times .entry)) (now (values .entry))) t) (now («out_keys» .entry)) (now («out_values» .entry)) (ofListed r) (now («out_keys» .exit)) (now («out_values» .exit)) ⌝ }
+{
+    if used < Version::FEW {
+        return write_few(keys, times, values, used, t, out_keys, out_values);
     }
+    let mut listed = [0u32; Version::ASIDE];
+    let mut contents = [0u32; Version::ASIDE];
+    write(
+        keys,
+        times,
+        values,
+        used,
+        t,
+        &mut listed,
+        &mut contents,
+        out_keys,
+        out_values,
+    )
 }
 
 // The list at t, in the first rows of two lent columns. Answers how many rows it has.
@@ -79,16 +113,11 @@ pub fn list(
     if !crate::shaped(h, keys.len(), times.len(), values.len()) {
         return Listed::Refused(Refusal::BadShape);
     }
-    let answer = decide(h, keys, times, values, t, out_keys.len());
-    fill(
-        h,
-        keys,
-        times,
-        values,
-        accepted(answer),
-        t,
-        out_keys,
-        out_values,
-    );
-    answer
+    if t < h.low {
+        return Listed::Refused(Refusal::TooOld);
+    }
+    if h.last < t {
+        return Listed::Refused(Refusal::Future);
+    }
+    write_any(keys, times, values, h.used, t, out_keys, out_values)
 }

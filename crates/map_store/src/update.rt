@@ -1,67 +1,32 @@
 // Update: a running transaction assigns or adds to a key. Refusals 1, 2, 3, 8.
 ghost use mathlib.Core.Path.{_≡_};
-ghost use mathlib.Core.Bool.{cond};
+ghost use mathlib.Core.Bool.{not, _||_};
+ghost use lib.Dec.{ltb};
 ghost use lib.ListN.{length};
 ghost use Rattle.rules.specs.Calls.{Update};
 ghost use Rattle.rules.specs.Effects.{orZero, applied};
 ghost use Rattle.answer.specs.Reply.{ofDone};
 ghost use Rattle.slot.specs.Formed.{Rowed};
 ghost use Rattle.slot.specs.Places.{hasKey, slotRows};
-ghost use Rattle.slot.specs.Slots.{slotOf};
 ghost use Rattle.versions.specs.Columns.{Lent};
 ghost use Rattle.versions.specs.Versions.{versionsOf};
 ghost use Rattle.map_store.specs.Meaning.{current};
-ghost use Rattle.map_store.specs.Shape.{Shaped, meaning, roomOf};
-ghost use Rattle.map_store.specs.Heads.{updatedHead};
-ghost use Rattle.map_store.specs.Contracts.{decided, Answered};
+ghost use Rattle.map_store.specs.Contracts.{Answered};
 use crate::MapHead;
 use crate::Outcome;
-use answer::Done;
 use answer::Refusal;
 use column::Found;
 use rules::Effect;
 use slot::Slot;
 
-// Whether the transaction of a slot wrote k.
-fn wrote(s: Slot, k: u32) -> bool
+// Whether the transaction of a slot has no row for k and none left.
+fn is_full(s: Slot, k: u32) -> bool
     requires { ⌜ Rowed s ⌝ }
-    ensures { λ r. ⌜ r ≡ hasKey k (slotRows s) ⌝ }
+    ensures { λ r. ⌜ r ≡ not (hasKey k (slotRows s) || ltb (length (slotRows s)) 32) ⌝ }
 {
     match s.find(k) {
-        Found::At(_) => true,
-        Found::Nothing => false,
-    }
-}
-
-// What a store of good shape answers.
-fn decide(
-    h: MapHead,
-    keys: &[u32],
-    times: &[u64],
-    values: &[u32],
-    n: u32,
-    k: u32,
-    e: Effect,
-) -> Done
-    requires { ⌜ Shaped h (length (now keys)) (length (now times)) (length (now values)) ⌝ }
-    ensures { λ r. ⌜ ofDone r ≡ decided (Update n k e) (roomOf (length (now (keys .entry)))) (meaning h (now (keys .entry)) (now (times .entry)) (now (values .entry))) ⌝ }
-{
-    let slots = h.slots;
-    match slots.find(n) {
-        Found::At(i) => {
-            if k == 0 {
-                return Done::Refused(Refusal::BadKey);
-            }
-            let s = slots.at(i);
-            if wrote(s, k) {
-                return Done::Accepted;
-            }
-            if Slot::KEYS <= s.count {
-                return Done::Refused(Refusal::KeysFull);
-            }
-            Done::Accepted
-        }
-        Found::Nothing => Done::Refused(Refusal::UnknownTransaction),
+        Found::At(_) => false,
+        Found::Nothing => Slot::KEYS <= s.count,
     }
 }
 
@@ -88,41 +53,7 @@ fn running_value(
     }
 }
 
-// The head with the running value noted in the transaction's slot, if the call was accepted.
-fn note(
-    h: MapHead,
-    keys: &[u32],
-    times: &[u64],
-    values: &[u32],
-    accepted: bool,
-    n: u32,
-    k: u32,
-    e: Effect,
-) -> MapHead
-    requires { ⌜ Shaped h (length (now keys)) (length (now times)) (length (now values)) ⌝ }
-    ensures { λ r. ⌜ r ≡ cond accepted (updatedHead k e (slotOf (h .slots) n) h (versionsOf (h .used) (now (keys .entry)) (now (times .entry)) (now (values .entry)))) h ⌝ }
-{
-    if !accepted {
-        return h;
-    }
-    let slots = h.slots;
-    match slots.find(n) {
-        Found::At(i) => {
-            let s = slots.at(i);
-            let value = running_value(s, keys, times, values, h.used, k, e);
-            MapHead {
-                low: h.low,
-                last: h.last,
-                next: h.next,
-                used: h.used,
-                slots: slots.noted(i, k, value),
-            }
-        }
-        Found::Nothing => h,
-    }
-}
-
-// Notes an effect of a running transaction on a key.
+// Notes an effect of a running transaction on a key. The slots are copied once, changed at one place and returned within the head.
 pub fn update(
     h: MapHead,
     keys: &[u32],
@@ -135,12 +66,21 @@ pub fn update(
     ensures { λ r. ⌜ Answered (Update n k e) h (now (keys .entry)) (now (times .entry)) (now (values .entry)) (ofDone (r .answer)) (r .head) ⌝ }
 {
     if !crate::shaped(h, keys.len(), times.len(), values.len()) {
-        return Outcome {
-            head: h,
-            answer: Done::Refused(Refusal::BadShape),
-        };
+        return crate::refused(h, Refusal::BadShape);
     }
-    let answer = decide(h, keys, times, values, n, k, e);
-    let head = note(h, keys, times, values, answer.accepted(), n, k, e);
-    Outcome { head, answer }
+    let mut slots = h.slots;
+    let found = slots.find(n);
+    let Found::At(i) = found else {
+        return crate::refused(h, Refusal::UnknownTransaction);
+    };
+    if k == 0 {
+        return crate::refused(h, Refusal::BadKey);
+    }
+    let s = slots.slots[i];
+    if is_full(s, k) {
+        return crate::refused(h, Refusal::KeysFull);
+    }
+    let value = running_value(s, keys, times, values, h.used, k, e);
+    slots.slots[i] = s.note(k, value);
+    crate::accepted(h, slots)
 }

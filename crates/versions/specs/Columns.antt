@@ -4,9 +4,6 @@ use mathlib.Core.Bool.{Bool, false, cond}
 use mathlib.Core.List.{List, [], _∷_, _++_}
 use Prim.Native.Nat.{ℕ, _-_, _≤_}
 use lib.ListN.{length, getD, take, drop, set, replicate}
-use Rattle.rules.specs.Values.{Row}
-use Rattle.rules.specs.Lists.{rowKeys}
-use Rattle.rules.specs.Columns.{rowValues}
 use Rattle.versions.specs.declared.Version.{Version}
 use Rattle.versions.specs.Versions.{versionsOf, keptFrom}
 
@@ -62,13 +59,3 @@ pub record Kept (T n : ℕ) (ks ts vs ks' ts' vs' : List ℕ) (r : ℕ) : Type 0
   pub keys : ks' ≡ settled (λ v. v .key) (keptFrom T (versionsOf n ks ts vs)) n ks
   pub times : ts' ≡ settled (λ v. v .time) (keptFrom T (versionsOf n ks ts vs)) n ts
   pub values : vs' ≡ settled (λ v. v .value) (keptFrom T (versionsOf n ks ts vs)) n vs
-
--- two columns have room for some rows
-pub record Room (rows : List Row) (ks vs : List ℕ) : Type 0 where
-  pub keys : length rows ≤ length ks
-  pub values : length rows ≤ length vs
-
--- two columns whose first rows are written with a list, its keys and its values
-pub record Filled (rows : List Row) (ks vs ks' vs' : List ℕ) : Type 0 where
-  pub keys : ks' ≡ rowKeys rows ++ drop (length rows) ks
-  pub values : vs' ≡ rowValues rows ++ drop (length rows) vs

@@ -8,18 +8,16 @@ use native.Mathlib.Numerals.{add-one}
 use native.Mathlib.Omega.{arith}
 use borrow.Author.Tests.{eqb-true, eqb-false, leb-true, leb-false, ltb-true, ltb-false}
 use lib.Dec.{eqb, leb, ltb}
-use lib.ListN.{length, getD, set, drop, length-append}
+use lib.ListN.{length, getD, set, length-append}
 use lib.Seq.{getD-set-same, getD-set-other, getD-at}
 use Rattle.column.specs.declared.Found.the-variants as found
 use Rattle.rules.specs.declared.Value.the-variants.{Absent}
 use Rattle.rules.specs.Bools.{split, or-right, or-none-left, or-none-right}
-use Rattle.rules.specs.Values.{Row}
 use Rattle.rules.specs.Lists.{among}
-use Rattle.rules.specs.Columns.{firstRows, front-rows}
 use Rattle.rules.specs.Listing.{Lists, listed-lists}
 use Rattle.versions.specs.declared.Version.{Version}
 use Rattle.versions.specs.Versions.{versionAt, versionsOf, Best, nothing, at, better, newestStep, newest, rowOf, valueAt, later, stays, thin, keptFrom, keysOf, listAt}
-use Rattle.versions.specs.Columns.{Lent, Appended, column, Kept, Filled}
+use Rattle.versions.specs.Columns.{Lent, Appended, column, Kept}
 
 pub length-versions : (n : ℕ) (ks ts vs : List ℕ) → length (versionsOf n ks ts vs) ≡ n
 length-versions zero ks ts vs = refl
@@ -223,7 +221,3 @@ unknown-absent k t (v ∷ older) h =
 -- the list at t is the list of the values at t
 pub list-lists : (vs : List Version) (t : ℕ) → Lists (λ k. valueAt k t vs) (listAt vs t)
 list-lists vs t = listed-lists (λ k. valueAt k t vs) (keysOf vs) (λ k. unknown-absent k t vs)
-
--- the columns that a list was written to have its rows
-pub filled-rows : (rows : List Row) (ks vs : List ℕ) {ks' vs' : List ℕ} → Filled rows ks vs ks' vs' → firstRows (length rows) ks' vs' ≡ rows
-filled-rows rows ks vs w = rw (w .keys, w .values) (front-rows rows (drop (length rows) ks) (drop (length rows) vs))

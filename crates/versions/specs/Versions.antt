@@ -55,11 +55,6 @@ shown (at i t v) = Present v
 abbrev pub valueAt : ℕ → ℕ → List Version → Value
 valueAt k t vs = shown (newest k t vs)
 
--- a value that is not absent
-abbrev pub isPresent : Value → Bool
-isPresent Absent = false
-isPresent (Present v) = true
-
 -- there is a version of k later than s
 abbrev pub later : ℕ → ℕ → List Version → Bool
 later s k [] = false

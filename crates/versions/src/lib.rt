@@ -1,16 +1,17 @@
 // The versions of the map store: lent columns of keys, commit times and values, of which the first `used` rows count.
-mod checkpoint;
-mod listing;
+mod conflict;
+mod search;
 
-pub use checkpoint::keep_from;
-pub use listing::count_listed;
-pub use listing::fill_list;
+pub use conflict::first_late;
+pub use conflict::is_later;
+pub use search::newest_row;
 ghost use mathlib.Core.Path.{_≡_};
-ghost use mathlib.Core.List.{List};
-ghost use Prim.Native.Nat.{ℕ, _+_, _≤_, _<_};
+ghost use Prim.Native.Nat.{_+_, _≤_, _<_, min};
+ghost use lib.Dec.{eqb};
 ghost use lib.ListN.{length};
-ghost use Rattle.versions.specs.Versions.{versionsOf, rowOf, newest, valueAt, later};
+ghost use Rattle.versions.specs.Versions.{versionsOf, valueAt};
 ghost use Rattle.versions.specs.Columns.{Lent, Appended};
+ghost use Rattle.versions.specs.Search.{some, Passed};
 use column::Found;
 use rules::Value;
 
@@ -24,46 +25,57 @@ pub struct Version {
 impl Version {
     // How many versions a store keeps at most.
     pub const ROWS: usize = 4096;
+
+    // A column beside the versions has a cell for each, and a spare one.
+    pub const ASIDE: usize = Version::ROWS + 1;
+
+    // Fewer versions than this have small columns beside them, since it takes time to make large ones.
+    pub const FEW: usize = 64;
+
+    // How many rows are compared side by side.
+    const WIDE: usize = 16;
 }
 
-// Where the newest version of k at or before t is among the rows up to row i; best is where it is among those before.
-// A later time alone replaces it, so that the earliest row among equals stays.
-fn newer_row(keys: &[u32], times: &[u64], i: usize, k: u32, t: u64, best: Found) -> Found
-    requires { ⌜ (i < length (now keys)) × (i < length (now times)) × ((values : List ℕ) → best ≡ rowOf (newest k t (versionsOf i (now keys) (now times) values))) ⌝ }
-    ensures { λ r. ⌜ ((values : List ℕ) → r ≡ rowOf (newest k t (versionsOf (i + 1) (now (keys .entry)) (now (times .entry)) values))) ⌝ }
+// Whether a cell holds k. No cell ends the loop, so that the compiler compares them side by side.
+fn has(cells: &[u32], k: u32) -> bool
+    ensures { λ r. ⌜ r ≡ some (λ x. eqb x k) (now (cells .entry)) ⌝ }
 {
-    if keys[i] != k {
-        return best;
-    }
-    if times[i] > t {
-        return best;
-    }
-    match best {
-        Found::At(j) => {
-            if times[j] < times[i] {
-                return Found::At(i);
-            }
-            Found::At(j)
-        }
-        Found::Nothing => Found::At(i),
-    }
-}
-
-// Rule 3.8: the row of the newest version of k at or before t: the greatest time, the earliest row among equals.
-pub fn newest_row(keys: &[u32], times: &[u64], used: usize, k: u32, t: u64) -> Found
-    requires { ⌜ (used ≤ length (now keys)) × (used ≤ length (now times)) ⌝ }
-    ensures { λ r. ⌜ ((values : List ℕ) → r ≡ rowOf (newest k t (versionsOf used (now (keys .entry)) (now (times .entry)) values))) ⌝ }
-{
-    let mut best = Found::Nothing;
+    let mut met = false;
     let mut i = 0;
-    let found = loop {
-        if i >= used {
-            break best;
+    while i < cells.len() {
+        if cells[i] == k {
+            met = true;
         }
-        best = newer_row(keys, times, i, k, t, best);
         i += 1;
-    };
-    found
+    }
+    met
+}
+
+// How far the rows from `from` on can be passed: up to 16 of which one has k, or to fewer than 16.
+fn pass(keys: &[u32], from: usize, used: usize, k: u32) -> usize
+    requires { ⌜ (from ≤ used) × (used ≤ length (now keys)) ⌝ }
+    ensures { λ r. ⌜ Passed k (now (keys .entry)) from used r ⌝ }
+{
+    let mut i = from;
+    while used - i >= Version::WIDE {
+        let end = i + Version::WIDE;
+        if has(&keys[i..end], k) {
+            return i;
+        }
+        i = end;
+    }
+    i
+}
+
+// Where the rows end that are looked at one by one before passing goes on.
+fn near(i: usize, used: usize) -> usize
+    requires { ⌜ i < used ⌝ }
+    ensures { λ r. ⌜ r ≡ min used (i + 16) ⌝ }
+{
+    if used - i < Version::WIDE {
+        return used;
+    }
+    i + Version::WIDE
 }
 
 // The value of k at t, or absent.
@@ -71,28 +83,11 @@ pub fn value_at(keys: &[u32], times: &[u64], values: &[u32], used: usize, k: u32
     requires { ⌜ Lent used (now keys) (now times) (now values) ⌝ }
     ensures { λ r. ⌜ r ≡ valueAt k t (versionsOf used (now (keys .entry)) (now (times .entry)) (now (values .entry))) ⌝ }
 {
-    let found = newest_row(keys, times, used, k, t);
+    let found = search::newest_row(keys, times, used, k, t);
     match found {
         Found::At(i) => Value::Present(values[i]),
         Found::Nothing => Value::Absent,
     }
-}
-
-// Rule 3.6: whether there is a version of k later than s.
-pub fn is_later(keys: &[u32], times: &[u64], used: usize, k: u32, s: u64) -> bool
-    requires { ⌜ (used ≤ length (now keys)) × (used ≤ length (now times)) ⌝ }
-    ensures { λ r. ⌜ ((values : List ℕ) → r ≡ later s k (versionsOf used (now (keys .entry)) (now (times .entry)) values)) ⌝ }
-{
-    let mut i = 0;
-    while i < used {
-        if keys[i] == k {
-            if times[i] > s {
-                return true;
-            }
-        }
-        i += 1;
-    }
-    false
 }
 
 // Rule 3.8: one version more, in row `used`.

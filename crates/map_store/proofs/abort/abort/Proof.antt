@@ -1,46 +1,105 @@
--- `map_store::abort::abort` meets its contract: what was decided is done. Assumes nothing.
-use mathlib.Core.Path.{sym, _∙_}
-use borrow.Author.Tests.{not-true, not-false}
-use Rattle.rules.specs.Calls.{Abort}
-use Rattle.answer.specs.Reply.{ofDone}
-use Rattle.map_store.specs.Laws.{bad-shape, answered}
+-- `map_store::abort::abort` meets its contract: a law for each way out. Assumes nothing.
+use mathlib.Core.Path.{_≡_, sym, _∙_}
+use Prim.Native.Nat.{ℕ}
 use borrow.Author.Needs.{needs}
+use borrow.Author.Tests.{not-true, not-false}
 use denote.Ref.{now}
+use Rattle.rules.specs.declared.Value.the-variants.{Absent}
+use Rattle.rules.specs.Calls.{Abort}
+use Rattle.answer.specs.declared.Refusal.the-variants.{UnknownTransaction}
+use Rattle.column.specs.declared.Found.{Found}
+use Rattle.column.specs.declared.Found.the-variants.{At}
+use Rattle.slot.specs.declared.Slots.{Slots}
+use Rattle.slot.specs.Slots.{slotOf, closedIn}
+use Rattle.map_store.specs.declared.MapHead.{MapHead}
+use Rattle.map_store.specs.Meaning.{mapRefusal}
+use Rattle.map_store.specs.Shape.{meaning}
+use Rattle.map_store.specs.Heads.{withSlots, abortedHead}
+use Rattle.map_store.specs.Laws.{place-none, place-found, bad-shape, turned-down, carried-out}
+use Rattle.map_store.specs.Tests.{say, abort-unknown, abort-done}
 use Rattle.map_store.proofs.abort.abort.Statement.{statement}
 use Rattle.map_store.proofs.abort.abort.Tie as tie
+
+-- the slot that was found is freed
+freed : (h : MapHead) (n : ℕ) (f : Found) → f ≡ slotOf (h .slots) n → (i : ℕ) → f ≡ At i → (s : Slots) → s ≡ closedIn (h .slots) i
+    → withSlots h s ≡ abortedHead (slotOf (h .slots) n) h
+freed h n f e i g s d = rw (sym e ∙ g, d)
 
 shaped-requires : tie.Need-shaped-requires
 shaped-requires c κs = search needs
 
+refused-requires : tie.Need-refused-requires
+refused-requires c κs = search needs
+
 returns : tie.Need-returns
 returns c =
-    let sh = c .before in
+    let t1 = c .before in
+    let sh = t1 .before in
     let a = sh .before .before .before .before .args in
-    bad-shape (Abort (a .n)) (a .h) (now (a .keys)) (now (a .times)) (now (a .values)) (sym (sh .shaped .ensures .0) ∙ not-true _ (c .if1 .taken))
+    rw (c .refused .ensures .0, c .refused .ensures .1)
+    (bad-shape (Abort (a .n)) (a .h) (now (a .keys)) (now (a .times)) (now (a .values)) (sym (sh .shaped .ensures .0) ∙ not-true _ (t1 .if1 .taken)))
 
-decide-requires : tie.Need-decide-requires
-decide-requires c κs =
-    let e1 = c in
-    let sh = e1 .before in
-    sh .shaped .ensures .1 (not-false _ (e1 .if1 .left))
+find-requires : tie.Need-find-requires
+find-requires c κs = search needs
+
+enum-known-i : tie.Need-enum-known-i
+enum-known-i c = search needs
+
+closed-requires : tie.Need-closed-requires
+closed-requires c κs =
+    let at = c .before in
+    let fd = at .before .before in
+    fd .find .ensures .1 (at .i .given .0 .0) (at .i .given .1)
 
 accepted-requires : tie.Need-accepted-requires
 accepted-requires c κs = search needs
 
-close-requires : tie.Need-close-requires
-close-requires c κs = search needs
+enum-told : tie.Need-enum-told
+enum-told c = search needs
+
+refused-requires-2 : tie.Need-refused-requires-2
+refused-requires-2 c κs = search needs
 
 returns-2 : tie.Need-returns-2
 returns-2 c =
-    let ac = c .before in
-    let dc = ac .before in
-    let e1 = dc .before in
+    let cl = c .before in
+    let at = cl .before .before in
+    let fd = at .before .before in
+    let e1 = fd .before .before in
     let sh = e1 .before in
     let a = sh .before .before .before .before .args in
-    answered (Abort (a .n)) (a .h) (now (a .keys)) (now (a .times)) (now (a .values)) (sym (sh .shaped .ensures .0) ∙ not-false _ (e1 .if1 .left))
-    (ofDone (dc .decide .result)) (dc .decide .ensures) _ (ac .accepted .ensures) _ (c .close .ensures)
+    let m = meaning (a .h) (now (a .keys)) (now (a .times)) (now (a .values)) in
+    carried-out (Abort (a .n)) (a .h) (now (a .keys)) (now (a .times)) (now (a .values)) (sym (sh .shaped .ensures .0) ∙ not-false _ (e1 .if1 .left)) _ _
+    (c .accepted .ensures)
+    (say 0 (mapRefusal (Abort (a .n)) m) Absent
+    (abort-done m (a .n) _ _ _ (place-found (a .h .slots) (a .n) _ (fd .find .ensures .0) _ (at .i .given .1))))
+    (freed (a .h) (a .n) _ (fd .find .ensures .0) _ (at .i .given .1) _ (cl .closed .ensures))
+
+returns-3 : tie.Need-returns-3
+returns-3 c =
+    let et = c .before in
+    let fd = et .before .before in
+    let e1 = fd .before .before in
+    let sh = e1 .before in
+    let a = sh .before .before .before .before .args in
+    let m = meaning (a .h) (now (a .keys)) (now (a .times)) (now (a .values)) in
+    turned-down (Abort (a .n)) (a .h) (now (a .keys)) (now (a .times)) (now (a .values)) (sym (sh .shaped .ensures .0) ∙ not-false _ (e1 .if1 .left)) _
+    UnknownTransaction (c .refused2 .ensures)
+    (say 2 (mapRefusal (Abort (a .n)) m) Absent
+    (abort-unknown m (a .n) (place-none (a .h .slots) (a .n) _ (fd .find .ensures .0) (et .enum-told .given .1))))
 
 pub abort-spec : {M : Type 1} → statement M
 abort-spec =
     tie.close
-    (tie.spec shaped-requires returns decide-requires accepted-requires close-requires returns-2)
+    (tie.spec
+    shaped-requires
+    refused-requires
+    returns
+    find-requires
+    enum-known-i
+    closed-requires
+    accepted-requires
+    enum-told
+    refused-requires-2
+    returns-2
+    returns-3)

@@ -1,36 +1,88 @@
--- `map_store::checkpoint::checkpoint` meets its contract: what was decided is done. Assumes nothing.
+-- `map_store::checkpoint::checkpoint` meets its contract: a law for each way out. Assumes nothing.
 use mathlib.Core.Path.{sym, _∙_}
-use borrow.Author.Tests.{not-true, not-false}
-use Rattle.answer.specs.Reply.{ofDone}
-use Rattle.map_store.specs.Laws.{checkpoint-bad-shape, checkpointed}
 use borrow.Author.Needs.{needs}
+use borrow.Author.Tests.{not-true, not-false}
 use denote.Ref.{now}
+use Rattle.rules.specs.declared.Value.the-variants.{Absent}
+use Rattle.answer.specs.declared.Refusal.the-variants.{TooOld, Future, Held}
+use Rattle.slot.specs.PlaceLaws.{holds-slots}
+use Rattle.map_store.specs.Meaning.{checkpointRefusal}
+use Rattle.map_store.specs.Shape.{meaning}
+use Rattle.map_store.specs.Laws.{lent, checkpoint-bad-shape, checkpoint-turned-down, checkpoint-carried-out}
+use Rattle.map_store.specs.Tests.{say, time-old, time-future, checkpoint-held, checkpoint-done}
 use Rattle.map_store.proofs.checkpoint.checkpoint.Statement.{statement}
 use Rattle.map_store.proofs.checkpoint.checkpoint.Tie as tie
 
 shaped-requires : tie.Need-shaped-requires
 shaped-requires c κs = search needs
 
+refused-requires : tie.Need-refused-requires
+refused-requires c κs = search needs
+
 returns : tie.Need-returns
 returns c =
-    let sh = c .before in
+    let t1 = c .before in
+    let sh = t1 .before in
     let a = sh .before .before .before .before .args in
-    checkpoint-bad-shape (a .t) (a .h) (now (a .keys)) (now (a .times)) (now (a .values)) (sym (sh .shaped .ensures .0) ∙ not-true _ (c .if1 .taken))
+    rw (c .refused .ensures .0, c .refused .ensures .1)
+    (checkpoint-bad-shape (a .t) (a .h) (now (a .keys)) (now (a .times)) (now (a .values)) (sym (sh .shaped .ensures .0) ∙ not-true _ (t1 .if1 .taken)))
 
-decide-requires : tie.Need-decide-requires
-decide-requires c κs =
-    let e1 = c .before .before .before in
+refused-requires-2 : tie.Need-refused-requires-2
+refused-requires-2 c κs = search needs
+
+returns-2 : tie.Need-returns-2
+returns-2 c =
+    let t2 = c .before in
+    let e1 = t2 .before .before in
     let sh = e1 .before in
-    sh .shaped .ensures .1 (not-false _ (e1 .if1 .left))
+    let a = sh .before .before .before .before .args in
+    let m = meaning (a .h) (now (a .keys)) (now (a .times)) (now (a .values)) in
+    checkpoint-turned-down (a .t) (a .h) (now (a .keys)) (now (a .times)) (now (a .values)) (sym (sh .shaped .ensures .0) ∙ not-false _ (e1 .if1 .left)) _
+    TooOld (c .refused2 .ensures) (say 4 (checkpointRefusal (a .t) m) Absent (time-old m (a .t) _ (t2 .if2 .taken)))
 
-accepted-requires : tie.Need-accepted-requires
-accepted-requires c κs = search needs
+refused-requires-3 : tie.Need-refused-requires-3
+refused-requires-3 c κs = search needs
 
-thin-requires : tie.Need-thin-requires
-thin-requires c κs =
-    let e1 = c .before .before .before .before .before .before .before .before in
+returns-3 : tie.Need-returns-3
+returns-3 c =
+    let t3 = c .before in
+    let e2 = t3 .before .before in
+    let e1 = e2 .before .before in
     let sh = e1 .before in
-    sh .shaped .ensures .1 (not-false _ (e1 .if1 .left))
+    let a = sh .before .before .before .before .args in
+    let m = meaning (a .h) (now (a .keys)) (now (a .times)) (now (a .values)) in
+    checkpoint-turned-down (a .t) (a .h) (now (a .keys)) (now (a .times)) (now (a .values)) (sym (sh .shaped .ensures .0) ∙ not-false _ (e1 .if1 .left)) _
+    Future (c .refused3 .ensures) (say 5 (checkpointRefusal (a .t) m) Absent (time-future m (a .t) _ (e2 .if2 .left) (t3 .if3 .taken)))
+
+holds-requires : tie.Need-holds-requires
+holds-requires c κs = search needs
+
+refused-requires-4 : tie.Need-refused-requires-4
+refused-requires-4 c κs = search needs
+
+returns-4 : tie.Need-returns-4
+returns-4 c =
+    let t4 = c .before in
+    let ho = t4 .before in
+    let e3 = ho .before .before in
+    let e2 = e3 .before .before in
+    let e1 = e2 .before .before in
+    let sh = e1 .before in
+    let a = sh .before .before .before .before .args in
+    let m = meaning (a .h) (now (a .keys)) (now (a .times)) (now (a .values)) in
+    checkpoint-turned-down (a .t) (a .h) (now (a .keys)) (now (a .times)) (now (a .values)) (sym (sh .shaped .ensures .0) ∙ not-false _ (e1 .if1 .left)) _
+    Held (c .refused4 .ensures)
+    (say 9 (checkpointRefusal (a .t) m) Absent
+    (checkpoint-held m (a .t) (e2 .if2 .left) (e3 .if3 .left) _ (ho .holds .ensures ∙ sym (holds-slots (a .h .slots) (a .t))) (t4 .if4 .taken)))
+
+keep-from-requires : tie.Need-keep-from-requires
+keep-from-requires c κs =
+    let e4 = c .before .before .before in
+    let e1 = e4 .before .before .before .before .before .before .before in
+    let sh = e1 .before in
+    let a = sh .before .before .before .before .args in
+    let w = sh .shaped .ensures .1 (not-false _ (e1 .if1 .left)) in
+    (lent (a .h) (now (a .keys)) (now (a .times)) (now (a .values)) w, w .limit)
 
 same-length : tie.Need-same-length
 same-length c = search needs
@@ -41,27 +93,38 @@ same-length-2 c = search needs
 same-length-3 : tie.Need-same-length-3
 same-length-3 c = search needs
 
-returns-2 : tie.Need-returns-2
-returns-2 c =
-    let th = c .before .before .before .before .before .before in
-    let ac = th .before in
-    let dc = ac .before .before .before .before in
-    let e1 = dc .before .before .before .before in
+returns-5 : tie.Need-returns-5
+returns-5 c =
+    let kf = c .before .before .before .before .before .before in
+    let e4 = kf .before .before .before .before in
+    let ho = e4 .before in
+    let e3 = ho .before .before in
+    let e2 = e3 .before .before in
+    let e1 = e2 .before .before in
     let sh = e1 .before in
     let a = sh .before .before .before .before .args in
-    checkpointed (a .t) (a .h) (now (a .keys)) (now (a .times)) (now (a .values)) (sym (sh .shaped .ensures .0) ∙ not-false _ (e1 .if1 .left))
-    (ofDone (dc .decide .result)) (dc .decide .ensures) _ (ac .accepted .ensures) _ _ _ _ (th .thin .ensures)
+    let m = meaning (a .h) (now (a .keys)) (now (a .times)) (now (a .values)) in
+    checkpoint-carried-out (a .t) (a .h) (now (a .keys)) (now (a .times)) (now (a .values)) (sym (sh .shaped .ensures .0) ∙ not-false _ (e1 .if1 .left)) _ _ _ _
+    (say 0 (checkpointRefusal (a .t) m) Absent
+    (checkpoint-done m (a .t) (e2 .if2 .left) (e3 .if3 .left) _ (ho .holds .ensures ∙ sym (holds-slots (a .h .slots) (a .t))) (e4 .if4 .left)))
+    (kf .keep-from .ensures)
 
 pub checkpoint-spec : {M : Type 1} → statement M
 checkpoint-spec =
     tie.close
     (tie.spec
     shaped-requires
+    refused-requires
     returns
-    decide-requires
-    accepted-requires
-    thin-requires
+    refused-requires-2
+    returns-2
+    refused-requires-3
+    returns-3
+    holds-requires
+    refused-requires-4
+    returns-4
+    keep-from-requires
     same-length
     same-length-2
     same-length-3
-    returns-2)
+    returns-5)

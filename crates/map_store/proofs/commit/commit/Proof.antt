@@ -1,43 +1,127 @@
--- `map_store::commit::commit` meets its contract: what was decided is done. Assumes nothing.
-use mathlib.Core.Path.{sym, _∙_}
-use borrow.Author.Tests.{not-true, not-false}
-use Rattle.answer.specs.Reply.{ofDone}
-use Rattle.map_store.specs.Laws.{commit-bad-shape, commit-lent, committed}
+-- `map_store::commit::commit` meets its contract: a law for each way out. Assumes nothing.
+use mathlib.Core.Path.{_≡_, sym, ap, _∙_}
+use mathlib.Core.Bool.{true}
+use mathlib.Core.List.{List}
+use Prim.Native.Nat.{ℕ, _+_, _≤_}
+use native.Mathlib.Omega.{arith}
+use lib.ListN.{length}
 use borrow.Author.Needs.{needs}
+use borrow.Author.Tests.{not-true, not-false}
 use denote.Ref.{now}
+use Rattle.rules.specs.declared.Value.the-variants.{Absent}
+use Rattle.rules.specs.Calls.{Commit}
+use Rattle.answer.specs.declared.Refusal.the-variants.{UnknownTransaction, NotLater, Conflict, NoRoom}
+use Rattle.column.specs.declared.Found.{Found}
+use Rattle.column.specs.declared.Found.the-variants.{At}
+use Rattle.slot.specs.declared.Slots.{Slots}
+use Rattle.slot.specs.Slots.{slotAt, slotOf, closedIn}
+use Rattle.slot.specs.Places.{slotRows}
+use Rattle.slot.specs.RowLaws.{length-rows}
+use Rattle.versions.specs.Laws.{length-versions}
+use Rattle.map_store.specs.declared.MapHead.{MapHead}
+use Rattle.map_store.specs.Meaning.{firsts, mapAnswer}
+use Rattle.map_store.specs.Shape.{roomOf, meaning}
+use Rattle.map_store.specs.Contracts.{Stamped, Put}
+use Rattle.map_store.specs.Laws.{lent, room-lent, place-none, place-found, rowed-found, commit-bad-shape, commit-turned-down, commit-carried-out}
+use Rattle.map_store.specs.RowLaws.{length-firsts}
+use Rattle.map_store.specs.Tests.{say, commit-unknown, commit-later, commit-conflict, commit-room, commit-done}
 use Rattle.map_store.proofs.commit.commit.Statement.{statement}
 use Rattle.map_store.proofs.commit.commit.Tie as tie
+
+-- the rows that count are written, and the slot that was found is freed
+freed : (n t : ℕ) (h : MapHead) (ks ts vs ks' ts' vs' : List ℕ) (f : Found) → f ≡ slotOf (h .slots) n → (i : ℕ) → f ≡ At i → (r : ℕ)
+    → Stamped t (h .used) (firsts (slotRows (slotAt (h .slots) i))) ks ts vs ks' ts' vs' r → (z : Slots) → z ≡ closedIn (h .slots) i
+    → Put n t h ks ts vs true (record { low = h .low; last = t; next = h .next; used = r; slots = z }) ks' ts' vs'
+freed n t h ks ts vs ks' ts' vs' f e i g r w z q =
+    record {
+      headed = rw (sym e ∙ g, w .count, q);
+      keys = rw (sym e ∙ g) (w .keys);
+      times = rw (sym e ∙ g) (w .times);
+      values = rw (sym e ∙ g) (w .values);
+    }
 
 shaped-requires : tie.Need-shaped-requires
 shaped-requires c κs = search needs
 
+refused-requires : tie.Need-refused-requires
+refused-requires c κs = search needs
+
 returns : tie.Need-returns
 returns c =
-    let sh = c .before in
+    let t1 = c .before in
+    let sh = t1 .before in
     let a = sh .before .before .before .before .args in
-    commit-bad-shape (a .n) (a .t) (a .h) (now (a .keys)) (now (a .times)) (now (a .values)) (sym (sh .shaped .ensures .0) ∙ not-true _ (c .if1 .taken))
+    rw (c .refused .ensures .0, c .refused .ensures .1)
+    (commit-bad-shape (a .n) (a .t) (a .h) (now (a .keys)) (now (a .times)) (now (a .values)) (sym (sh .shaped .ensures .0) ∙ not-true _ (t1 .if1 .taken)))
 
-decide-requires : tie.Need-decide-requires
-decide-requires c κs =
-    let e1 = c .before .before .before in
-    let sh = e1 .before in
-    sh .shaped .ensures .1 (not-false _ (e1 .if1 .left))
+find-requires : tie.Need-find-requires
+find-requires c κs = search needs
 
-accepted-requires : tie.Need-accepted-requires
-accepted-requires c κs = search needs
+enum-known-found : tie.Need-enum-known-found
+enum-known-found c = search needs
 
-put-requires : tie.Need-put-requires
-put-requires c κs =
-    let ac = c in
-    let dc = ac .before .before .before .before in
-    let e1 = dc .before .before .before .before in
+enum-told : tie.Need-enum-told
+enum-told c = search needs
+
+refused-requires-2 : tie.Need-refused-requires-2
+refused-requires-2 c κs = search needs
+
+returns-2 : tie.Need-returns-2
+returns-2 c =
+    let et = c .before in
+    let fd = et .before .before in
+    let e1 = fd .before .before in
     let sh = e1 .before in
     let a = sh .before .before .before .before .args in
-    let w = sh .shaped .ensures .1 (not-false _ (e1 .if1 .left)) in (
-      w,
-      commit-lent (a .n) (a .t) (a .h) (now (a .keys)) (now (a .times)) (now (a .values)) (sym (sh .shaped .ensures .0) ∙ not-false _ (e1 .if1 .left))
-          (ofDone (dc .decide .result)) (dc .decide .ensures) _ (ac .accepted .ensures) w,
-    )
+    let m = meaning (a .h) (now (a .keys)) (now (a .times)) (now (a .values)) in
+    commit-turned-down (a .n) (a .t) (a .h) (now (a .keys)) (now (a .times)) (now (a .values)) (sym (sh .shaped .ensures .0) ∙ not-false _ (e1 .if1 .left)) _
+    UnknownTransaction (c .refused2 .ensures)
+    (say 2 (mapAnswer (roomOf (length (now (a .keys)))) (Commit (a .n) (a .t)) m) Absent
+    (commit-unknown m (a .n) (place-none (a .h .slots) (a .n) _ (fd .find .ensures .0) (et .enum-told .given .1)) (roomOf (length (now (a .keys)))) (a .t)))
+
+refused-requires-3 : tie.Need-refused-requires-3
+refused-requires-3 c κs = search needs
+
+returns-3 : tie.Need-returns-3
+returns-3 c =
+    let t2 = c .before in
+    let fo = t2 .before .before .before in
+    let fd = fo .before .before in
+    let e1 = fd .before .before in
+    let sh = e1 .before in
+    let a = sh .before .before .before .before .args in
+    let m = meaning (a .h) (now (a .keys)) (now (a .times)) (now (a .values)) in
+    commit-turned-down (a .n) (a .t) (a .h) (now (a .keys)) (now (a .times)) (now (a .values)) (sym (sh .shaped .ensures .0) ∙ not-false _ (e1 .if1 .left)) _
+    NotLater (c .refused3 .ensures)
+    (say 10 (mapAnswer (roomOf (length (now (a .keys)))) (Commit (a .n) (a .t)) m) Absent
+    (commit-later m (a .n) _ _ _ (place-found (a .h .slots) (a .n) _ (fd .find .ensures .0) _ (fo .found .given .1)) (roomOf (length (now (a .keys)))) (a .t) (t2 .if2 .taken)))
+
+mul-s : tie.Need-mul-s
+mul-s c =
+    let fo = c .before .before .before in
+    let fd = fo .before .before in
+    let l = fd .find .ensures .1 (fo .found .given .0 .0) (fo .found .given .1) in
+    omega arith
+
+element-copy-out-s : tie.Need-element-copy-out-s
+element-copy-out-s c =
+    let fo = c .before .before .before in
+    let fd = fo .before .before in
+    fd .find .ensures .1 (fo .found .given .0 .0) (fo .found .given .1)
+
+conflicts-requires : tie.Need-conflicts-requires
+conflicts-requires c κs =
+    let fo = c .before .before .before .before .before .before in
+    let fd = fo .before .before in
+    let e1 = fd .before .before in
+    let sh = e1 .before in
+    let a = sh .before .before .before .before .args in
+    let w = sh .shaped .ensures .1 (not-false _ (e1 .if1 .left)) in
+    let l = lent (a .h) (now (a .keys)) (now (a .times)) (now (a .values)) w in
+    (rowed-found (a .h .slots) (a .n) _ (fd .find .ensures .0) _ (fo .found .given .1) (w .formed), l .keys, l .times)
+
+refused-requires-4 : tie.Need-refused-requires-4
+refused-requires-4 c κs = search needs
 
 same-length : tie.Need-same-length
 same-length c = search needs
@@ -45,30 +129,171 @@ same-length c = search needs
 same-length-2 : tie.Need-same-length-2
 same-length-2 c = search needs
 
+returns-4 : tie.Need-returns-4
+returns-4 c =
+    let t3 = c .before in
+    let co = t3 .before in
+    let e2 = co .before .before .before .before in
+    let fo = e2 .before .before .before in
+    let fd = fo .before .before in
+    let e1 = fd .before .before in
+    let sh = e1 .before in
+    let a = sh .before .before .before .before .args in
+    let m = meaning (a .h) (now (a .keys)) (now (a .times)) (now (a .values)) in
+    commit-turned-down (a .n) (a .t) (a .h) (now (a .keys)) (now (a .times)) (now (a .values)) (sym (sh .shaped .ensures .0) ∙ not-false _ (e1 .if1 .left)) _
+    Conflict (c .refused4 .ensures)
+    (say 11 (mapAnswer (roomOf (length (now (a .keys)))) (Commit (a .n) (a .t)) m) Absent
+    (commit-conflict m (a .n) _ _ _ (place-found (a .h .slots) (a .n) _ (fd .find .ensures .0) _ (fo .found .given .1)) (roomOf (length (now (a .keys)))) (a .t) (e2 .if2 .left) _
+    (co .conflicts .ensures (now (a .values))) (t3 .if3 .taken)))
+
+room-requires : tie.Need-room-requires
+room-requires c κs = search needs
+
+count-written-requires : tie.Need-count-written-requires
+count-written-requires c κs =
+    let co = c .before .before in
+    let fo = co .before .before .before .before .before .before .before in
+    let fd = fo .before .before in
+    let e1 = fd .before .before in
+    let sh = e1 .before in
+    let a = sh .before .before .before .before .args in
+    let w = sh .shaped .ensures .1 (not-false _ (e1 .if1 .left)) in
+    rowed-found (a .h .slots) (a .n) _ (fd .find .ensures .0) _ (fo .found .given .1) (w .formed)
+
+add-if4 : tie.Need-add-if4
+add-if4 c =
+    let cw = c .before in
+    let co = cw .before .before .before in
+    let fo = co .before .before .before .before .before .before .before in
+    let fd = fo .before .before in
+    let e1 = fd .before .before in
+    let sh = e1 .before in
+    let a = sh .before .before .before .before .args in
+    let w = sh .shaped .ensures .1 (not-false _ (e1 .if1 .left)) in
+    let s = slotAt (a .h .slots) (fo .found .given .0 .0) in
+    let r = rowed-found (a .h .slots) (a .n) _ (fd .find .ensures .0) _ (fo .found .given .1) (w .formed) in
+    omega (arith, cw .count-written .ensures, length-firsts (slotRows s), length-rows (s .keys) (s .values) (s .count), r .count, w .limit)
+
+refused-requires-5 : tie.Need-refused-requires-5
+refused-requires-5 c κs = search needs
+
 same-length-3 : tie.Need-same-length-3
 same-length-3 c = search needs
 
-returns-2 : tie.Need-returns-2
-returns-2 c =
-    let pt = c .before .before .before .before .before .before in
-    let ac = pt .before in
-    let dc = ac .before .before .before .before in
-    let e1 = dc .before .before .before .before in
+same-length-4 : tie.Need-same-length-4
+same-length-4 c = search needs
+
+returns-5 : tie.Need-returns-5
+returns-5 c =
+    let t4 = c .before in
+    let cw = t4 .before .before in
+    let rm = cw .before in
+    let e3 = rm .before in
+    let co = e3 .before in
+    let e2 = co .before .before .before .before in
+    let fo = e2 .before .before .before in
+    let fd = fo .before .before in
+    let e1 = fd .before .before in
     let sh = e1 .before in
     let a = sh .before .before .before .before .args in
-    committed (a .n) (a .t) (a .h) (now (a .keys)) (now (a .times)) (now (a .values)) (sym (sh .shaped .ensures .0) ∙ not-false _ (e1 .if1 .left))
-    (ofDone (dc .decide .result)) (dc .decide .ensures) _ (ac .accepted .ensures) _ _ _ _ (pt .put .ensures)
+    let m = meaning (a .h) (now (a .keys)) (now (a .times)) (now (a .values)) in
+    commit-turned-down (a .n) (a .t) (a .h) (now (a .keys)) (now (a .times)) (now (a .values)) (sym (sh .shaped .ensures .0) ∙ not-false _ (e1 .if1 .left)) _
+    NoRoom (c .refused5 .ensures)
+    (say 12 (mapAnswer (roomOf (length (now (a .keys)))) (Commit (a .n) (a .t)) m) Absent
+    (commit-room m (a .n) _ _ _ (place-found (a .h .slots) (a .n) _ (fd .find .ensures .0) _ (fo .found .given .1)) (roomOf (length (now (a .keys)))) (a .t) (e2 .if2 .left) _
+    (co .conflicts .ensures (now (a .values))) (e3 .if3 .left) (a .h .used) _ (length-versions (a .h .used) (now (a .keys)) (now (a .times)) (now (a .values)))
+    (cw .count-written .ensures) (rw (rm .room .ensures) at (t4 .if4 .taken))))
+
+stamp-requires : tie.Need-stamp-requires
+stamp-requires c κs =
+    let e4 = c .before .before .before in
+    let cw = e4 .before .before in
+    let rm = cw .before in
+    let co = rm .before .before in
+    let fo = co .before .before .before .before .before .before .before in
+    let fd = fo .before .before in
+    let e1 = fd .before .before in
+    let sh = e1 .before in
+    let a = sh .before .before .before .before .args in
+    let w = sh .shaped .ensures .1 (not-false _ (e1 .if1 .left)) in (
+      rowed-found (a .h .slots) (a .n) _ (fd .find .ensures .0) _ (fo .found .given .1) (w .formed),
+      w .limit,
+      room-lent (a .h) (now (a .keys)) (now (a .times)) (now (a .values)) w _ (rw (rm .room .ensures, cw .count-written .ensures) at (e4 .if4 .left)),
+    )
+
+closed-requires : tie.Need-closed-requires
+closed-requires c κs =
+    let sp = c .before .before .before .before .before .before in
+    let e4 = sp .before .before .before .before in
+    let co = e4 .before .before .before .before .before in
+    let fo = co .before .before .before .before .before .before .before in
+    let fd = fo .before .before in
+    fd .find .ensures .1 (fo .found .given .0 .0) (fo .found .given .1)
+
+same-length-5 : tie.Need-same-length-5
+same-length-5 c = search needs
+
+same-length-6 : tie.Need-same-length-6
+same-length-6 c = search needs
+
+same-length-7 : tie.Need-same-length-7
+same-length-7 c = search needs
+
+returns-6 : tie.Need-returns-6
+returns-6 c =
+    let sp = c .before .before .before .before .before .before .before in
+    let e4 = sp .before .before .before .before in
+    let cw = e4 .before .before in
+    let rm = cw .before in
+    let e3 = rm .before in
+    let co = e3 .before in
+    let e2 = co .before .before .before .before in
+    let fo = e2 .before .before .before in
+    let fd = fo .before .before in
+    let e1 = fd .before .before in
+    let sh = e1 .before in
+    let a = sh .before .before .before .before .args in
+    let m = meaning (a .h) (now (a .keys)) (now (a .times)) (now (a .values)) in
+    commit-carried-out (a .n) (a .t) (a .h) (now (a .keys)) (now (a .times)) (now (a .values)) (sym (sh .shaped .ensures .0) ∙ not-false _ (e1 .if1 .left))
+    _ _ _ _
+    (say 0 (mapAnswer (roomOf (length (now (a .keys)))) (Commit (a .n) (a .t)) m) Absent
+    (commit-done m (a .n) _ _ _ (place-found (a .h .slots) (a .n) _ (fd .find .ensures .0) _ (fo .found .given .1)) (roomOf (length (now (a .keys)))) (a .t) (e2 .if2 .left) _
+    (co .conflicts .ensures (now (a .values))) (e3 .if3 .left) (a .h .used) _ (length-versions (a .h .used) (now (a .keys)) (now (a .times)) (now (a .values)))
+    (cw .count-written .ensures) (rw (rm .room .ensures) at (e4 .if4 .left))))
+    (freed (a .n) (a .t) (a .h) (now (a .keys)) (now (a .times)) (now (a .values)) _ _ _ _ (fd .find .ensures .0) _ (fo .found .given .1) _ (sp .stamp .ensures)
+    _ (c .closed .ensures))
 
 pub commit-spec : {M : Type 1} → statement M
 commit-spec =
     tie.close
     (tie.spec
     shaped-requires
+    refused-requires
     returns
-    decide-requires
-    accepted-requires
-    put-requires
+    find-requires
+    enum-known-found
+    enum-told
+    refused-requires-2
+    returns-2
+    refused-requires-3
+    returns-3
+    mul-s
+    element-copy-out-s
+    conflicts-requires
+    refused-requires-4
     same-length
     same-length-2
+    returns-4
+    room-requires
+    count-written-requires
+    add-if4
+    refused-requires-5
     same-length-3
-    returns-2)
+    same-length-4
+    returns-5
+    stamp-requires
+    closed-requires
+    same-length-5
+    same-length-6
+    same-length-7
+    returns-6)

@@ -23,10 +23,13 @@ module _ (ks vs : List ℕ) (s : ℕ) (versions : List Version) (i : ℕ) (b : B
   miss t h = clash-none ks vs s versions i (sym e ∙ t) h
 
 abbrev Inv-loop : tie.InvT-loop
-Inv-loop s keys times used written rows i₀ i = (i ≤ rows) × ((values : List ℕ) → clash (s .snapshot) (rowsOf (s .keys) (s .values) i) (versionsOf used keys times values) ≡ false)
+Inv-loop s keys times used written rows from i₀ i = (i ≤ rows) × ((values : List ℕ) → clash (s .snapshot) (rowsOf (s .keys) (s .values) i) (versionsOf used keys times values) ≡ false)
 
 abbrev μ-loop : tie.MeasureT-loop
-μ-loop s keys times used written rows i₀ i = rows - i
+μ-loop s keys times used written rows from i₀ i = rows - i
+
+first-late-requires : tie.Need-first-late-requires Inv-loop μ-loop
+first-late-requires c κs = search needs
 
 loop-holds : tie.Need-loop-holds Inv-loop μ-loop
 loop-holds c = (omega arith, λ values. refl)
@@ -34,26 +37,27 @@ loop-holds c = (omega arith, λ values. refl)
 mul-is-later : tie.Need-mul-is-later Inv-loop μ-loop
 mul-is-later c =
     let lt = c in
-    let st = lt .before .before .before .before .before in
+    let st = lt .before .before .before .before .before .before in
     omega (arith, lt .loop-test .taken, st .pre .0 .count)
 
 array-read-is-later : tie.Need-array-read-is-later Inv-loop μ-loop
 array-read-is-later c =
     let lt = c in
-    let st = lt .before .before .before .before .before in
+    let st = lt .before .before .before .before .before .before in
     omega (arith, lt .loop-test .taken, st .pre .0 .count)
 
 is-later-requires : tie.Need-is-later-requires Inv-loop μ-loop
 is-later-requires c κs =
-    let st = c .before .before .before .before .before in
-    (st .pre .1, st .pre .2)
+    let fl = c .before .before in
+    let st = fl .before .before .before .before in
+    (fl .first-late .ensures .within, st .pre .1, st .pre .2, fl .first-late .ensures .before)
 
 returns : tie.Need-returns Inv-loop μ-loop
 returns c =
     let il = c .before in
     let lt = il .before in
     let lp = lt .before in
-    let a = lp .before .before .before .before .args in
+    let a = lp .before .before .before .before .before .args in
     λ values.
     hit (a .s .keys) (a .s .values) (a .s .snapshot) (versionsOf (a .used) (now (a .keys)) (now (a .times)) values) (lp .loop .i) _
     (il .is-later .ensures values) (a .s .count) (lt .loop-test .taken) (c .if1 .taken)
@@ -61,7 +65,7 @@ returns c =
 add-i : tie.Need-add-i Inv-loop μ-loop
 add-i c =
     let lt = c .before .before in
-    let st = lt .before .before .before .before .before in
+    let st = lt .before .before .before .before .before .before in
     omega (arith, lt .loop-test .taken, st .pre .0 .count)
 
 loop-less : tie.Need-loop-less Inv-loop μ-loop
@@ -72,7 +76,7 @@ loop-again c =
     let il = c .before in
     let lt = il .before in
     let lp = lt .before in
-    let a = lp .before .before .before .before .args in (
+    let a = lp .before .before .before .before .before .args in (
       omega arith,
       λ values.
           miss (a .s .keys) (a .s .values) (a .s .snapshot) (versionsOf (a .used) (now (a .keys)) (now (a .times)) values) (lp .loop .i) _
@@ -82,7 +86,7 @@ loop-again c =
 returns-2 : tie.Need-returns-2 Inv-loop μ-loop
 returns-2 c =
     let lp = c .before in
-    let a = lp .before .before .before .before .args in
+    let a = lp .before .before .before .before .before .args in
     λ values.
     let e : lp .loop .i ≡ a .s .count = omega arith in
     sym (rw e at (lp .loop .inv .1 values))
@@ -93,6 +97,7 @@ conflicts-spec =
     (tie.spec
     Inv-loop
     μ-loop
+    first-late-requires
     loop-holds
     mul-is-later
     array-read-is-later

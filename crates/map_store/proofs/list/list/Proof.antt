@@ -1,10 +1,17 @@
--- `map_store::list::list` meets its contract: what was decided is done. Assumes nothing.
+-- `map_store::list::list` meets its contract: a law for each way out. Assumes nothing.
 use mathlib.Core.Path.{sym, _∙_}
-use borrow.Author.Tests.{eq-eqb, ne-eqb, not-true, not-false}
-use Rattle.answer.specs.Reply.{ofListed}
-use Rattle.map_store.specs.Laws.{list-unpaired, list-bad-shape, list-lent, listed}
+use lib.ListN.{length}
 use borrow.Author.Needs.{needs}
+use borrow.Author.Tests.{eq-eqb, ne-eqb, not-true, not-false}
 use denote.Ref.{now}
+use Rattle.rules.specs.declared.Value.the-variants.{Present}
+use Rattle.answer.specs.declared.Refusal.the-variants.{TooOld, Future}
+use Rattle.answer.specs.Reply.{ofListed}
+use Rattle.versions.specs.Versions.{listAt}
+use Rattle.map_store.specs.Meaning.{listAnswer}
+use Rattle.map_store.specs.Shape.{meaning}
+use Rattle.map_store.specs.Laws.{lent, list-unpaired, list-bad-shape, list-untimely, list-timed}
+use Rattle.map_store.specs.Tests.{say, list-old, list-future}
 use Rattle.map_store.proofs.list.list.Statement.{statement}
 use Rattle.map_store.proofs.list.list.Tie as tie
 
@@ -24,27 +31,40 @@ returns-2 c =
     list-bad-shape (a .t) (a .h) (now (a .keys)) (now (a .times)) (now (a .values)) (now (a .out-keys)) (now (a .out-values)) (eq-eqb _ _ (e1 .if1 .left))
     (sym (sh .shaped .ensures .0) ∙ not-true _ (c .if2 .taken))
 
-decide-requires : tie.Need-decide-requires
-decide-requires c κs =
-    let e2 = c in
-    let sh = e2 .before in
-    sh .shaped .ensures .1 (not-false _ (e2 .if2 .left))
-
-accepted-requires : tie.Need-accepted-requires
-accepted-requires c κs = search needs
-
-fill-requires : tie.Need-fill-requires
-fill-requires c κs =
-    let ac = c .before .before in
-    let dc = ac .before in
-    let e2 = dc .before in
+returns-3 : tie.Need-returns-3
+returns-3 c =
+    let e2 = c .before .before in
     let sh = e2 .before in
     let e1 = sh .before in
-    let a = e1 .before .before .before .before .before .before .args in (
-      sh .shaped .ensures .1 (not-false _ (e2 .if2 .left)),
-      list-lent (a .t) (a .h) (now (a .keys)) (now (a .times)) (now (a .values)) (now (a .out-keys)) (now (a .out-values)) (eq-eqb _ _ (e1 .if1 .left)) (sym (sh .shaped .ensures .0) ∙ not-false _ (e2 .if2 .left))
-          (ofListed (dc .decide .result)) (dc .decide .ensures) _ (ac .accepted .ensures),
-    )
+    let a = e1 .before .before .before .before .before .before .args in
+    let m = meaning (a .h) (now (a .keys)) (now (a .times)) (now (a .values)) in
+    list-untimely (a .t) (a .h) (now (a .keys)) (now (a .times)) (now (a .values)) (now (a .out-keys)) (now (a .out-values)) (eq-eqb _ _ (e1 .if1 .left))
+    (sym (sh .shaped .ensures .0) ∙ not-false _ (e2 .if2 .left)) TooOld
+    (say 4 (listAnswer (length (now (a .out-keys))) (a .t) m) (Present (length (listAt (m .versions) (a .t))))
+    (list-old m (a .t) (length (now (a .out-keys))) (c .if3 .taken)))
+
+returns-4 : tie.Need-returns-4
+returns-4 c =
+    let e3 = c .before .before in
+    let e2 = e3 .before .before in
+    let sh = e2 .before in
+    let e1 = sh .before in
+    let a = e1 .before .before .before .before .before .before .args in
+    let m = meaning (a .h) (now (a .keys)) (now (a .times)) (now (a .values)) in
+    list-untimely (a .t) (a .h) (now (a .keys)) (now (a .times)) (now (a .values)) (now (a .out-keys)) (now (a .out-values)) (eq-eqb _ _ (e1 .if1 .left))
+    (sym (sh .shaped .ensures .0) ∙ not-false _ (e2 .if2 .left)) Future
+    (say 5 (listAnswer (length (now (a .out-keys))) (a .t) m) (Present (length (listAt (m .versions) (a .t))))
+    (list-future m (a .t) (length (now (a .out-keys))) (e3 .if3 .left) (c .if4 .taken)))
+
+write-any-requires : tie.Need-write-any-requires
+write-any-requires c κs =
+    let e4 = c .before .before in
+    let e2 = e4 .before .before .before .before in
+    let sh = e2 .before in
+    let e1 = sh .before in
+    let a = e1 .before .before .before .before .before .before .args in
+    let s = sh .shaped .ensures .1 (not-false _ (e2 .if2 .left)) in
+    (lent (a .h) (now (a .keys)) (now (a .times)) (now (a .values)) s, s .limit, e1 .if1 .left)
 
 same-length : tie.Need-same-length
 same-length c = search needs
@@ -52,17 +72,17 @@ same-length c = search needs
 same-length-2 : tie.Need-same-length-2
 same-length-2 c = search needs
 
-returns-3 : tie.Need-returns-3
-returns-3 c =
-    let fl = c .before .before .before .before in
-    let ac = fl .before .before .before in
-    let dc = ac .before in
-    let e2 = dc .before in
+returns-5 : tie.Need-returns-5
+returns-5 c =
+    let w = c .before .before .before .before in
+    let e4 = w .before .before .before in
+    let e3 = e4 .before .before in
+    let e2 = e3 .before .before in
     let sh = e2 .before in
     let e1 = sh .before in
     let a = e1 .before .before .before .before .before .before .args in
-    listed (a .t) (a .h) (now (a .keys)) (now (a .times)) (now (a .values)) (now (a .out-keys)) (now (a .out-values)) (eq-eqb _ _ (e1 .if1 .left)) (sym (sh .shaped .ensures .0) ∙ not-false _ (e2 .if2 .left))
-    (ofListed (dc .decide .result)) (dc .decide .ensures) _ (ac .accepted .ensures) _ _ (fl .fill .ensures)
+    list-timed (a .t) (a .h) (now (a .keys)) (now (a .times)) (now (a .values)) (now (a .out-keys)) (now (a .out-values)) (eq-eqb _ _ (e1 .if1 .left))
+    (sym (sh .shaped .ensures .0) ∙ not-false _ (e2 .if2 .left)) (e3 .if3 .left) (e4 .if4 .left) (ofListed (w .write-any .result)) _ _ (w .write-any .ensures)
 
 pub list-spec : {M : Type 1} → statement M
 list-spec =
@@ -71,9 +91,9 @@ list-spec =
     returns
     shaped-requires
     returns-2
-    decide-requires
-    accepted-requires
-    fill-requires
+    returns-3
+    returns-4
+    write-any-requires
     same-length
     same-length-2
-    returns-3)
+    returns-5)

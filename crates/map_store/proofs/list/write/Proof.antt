@@ -1,0 +1,105 @@
+-- `map_store::list::write` meets its contract: the list that was made aside is told, and copied where there is room. Assumes nothing.
+use mathlib.Core.Path.{_≡_, refl, ap}
+use mathlib.Core.List.{List, _++_}
+use Prim.Native.Nat.{ℕ, _≤_, _<_}
+use native.Mathlib.Omega.{arith}
+use lib.ListN.{length, take, drop}
+use borrow.Author.Needs.{needs}
+use borrow.Author.Tests.{le-leb, lt-leb}
+use denote.Ref.{now}
+use Rattle.rules.specs.declared.Value.the-variants.{Present}
+use Rattle.rules.specs.Calls.{withRoom}
+use Rattle.rules.specs.Values.{Row}
+use Rattle.answer.specs.declared.Refusal.the-variants.{NoRoom}
+use Rattle.answer.specs.Reply.{refused, accepted}
+use Rattle.table.specs.Table.{Next}
+use Rattle.table.specs.Laws.{next-within, next-copied}
+use Rattle.versions.specs.Versions.{versionsOf, listAt}
+use Rattle.map_store.specs.Contracts.{ListedIn}
+use Rattle.map_store.specs.Tests.{say, say-value}
+use Rattle.map_store.proofs.list.write.Statement.{statement}
+use Rattle.map_store.proofs.list.write.Tie as tie
+
+module _ (rows : List Row) (oks ovs : List ℕ) {a b a' b' : List ℕ} {n : ℕ} (w : Next rows a b a' b' n) where
+  no-room : length oks < n → ListedIn rows oks ovs (refused NoRoom) oks ovs
+  no-room l =
+      record {
+        reply = say 12 (withRoom 0 (length rows) (length oks)) (Present (length rows)) (rw (← w .count, lt-leb n (length oks) l));
+        written = record { keys = refl; values = refl };
+      }
+
+  copied : n ≤ length oks → {oks' ovs' : List ℕ} → oks' ≡ take n a' ++ drop n oks → ovs' ≡ take n b' ++ drop n ovs
+      → ListedIn rows oks ovs (accepted (Present n)) oks' ovs'
+  copied l {oks'} {ovs'} k v =
+      let f = next-copied rows a b a' b' n w oks ovs oks' ovs' k v in
+      record {
+        reply =
+            say-value (withRoom 0 (length rows) (length oks)) (Present n) (Present (length rows)) (ap Present (w .count))
+            (rw (← w .count, le-leb n (length oks) l));
+        written = record { keys = f .keys-column; values = f .values-column };
+      }
+
+listing-requires : tie.Need-listing-requires
+listing-requires c κs = search needs
+
+same-length : tie.Need-same-length
+same-length c = search needs
+
+same-length-2 : tie.Need-same-length-2
+same-length-2 c = search needs
+
+returns : tie.Need-returns
+returns c =
+    let g = c .before .before .before .before .before in
+    let a = g .before .before .before .before .before .before .before .before .before .before .args in
+    no-room (listAt (versionsOf (a .used) (now (a .keys)) (now (a .times)) (now (a .values))) (a .t)) (now (a .out-keys)) (now (a .out-values))
+    (g .listing .ensures) (c .if1 .taken)
+
+copy-requires : tie.Need-copy-requires
+copy-requires c κs =
+    let g = c .before .before .before .before .before .before .before in
+    (next-within _ _ _ _ _ _ (g .listing .ensures) .in-keys, omega arith)
+
+copy-requires-2 : tie.Need-copy-requires-2
+copy-requires-2 c κs =
+    let e = c .before .before .before .before .before .before .before in
+    let g = e .before .before .before .before .before in
+    (next-within _ _ _ _ _ _ (g .listing .ensures) .in-values, omega (arith, e .if1 .left))
+
+same-length-3 : tie.Need-same-length-3
+same-length-3 c = search needs
+
+same-length-4 : tie.Need-same-length-4
+same-length-4 c = search needs
+
+same-length-5 : tie.Need-same-length-5
+same-length-5 c = search needs
+
+same-length-6 : tie.Need-same-length-6
+same-length-6 c = search needs
+
+returns-2 : tie.Need-returns-2
+returns-2 c =
+    let v = c .before .before in
+    let k = v .before .before .before .before .before in
+    let e = k .before .before .before in
+    let g = e .before .before .before .before .before in
+    let a = g .before .before .before .before .before .before .before .before .before .before .args in
+    copied (listAt (versionsOf (a .used) (now (a .keys)) (now (a .times)) (now (a .values))) (a .t)) (now (a .out-keys)) (now (a .out-values))
+    (g .listing .ensures) (e .if1 .left) (k .copy .ensures) (v .copy2 .ensures)
+
+pub write-spec : {M : Type 1} → statement M
+write-spec =
+    tie.close
+    (tie.spec
+    listing-requires
+    same-length
+    same-length-2
+    returns
+    copy-requires
+    copy-requires-2
+    same-length-3
+    same-length-4
+    same-length-5
+    same-length-6
+    returns-2)

@@ -1,0 +1,85 @@
+-- `newest::checkpoint::mark_kept` meets its contract: a row is marked as late, as named by the table, or as the newest of key 0, which is all that stays.
+use mathlib.Core.Path.{_≡_, refl, _∙_}
+use mathlib.Core.Bool.{Bool, true, false, _||_}
+use mathlib.Core.List.{List}
+use Prim.Native.Nat.{ℕ, _<_}
+use native.Mathlib.Omega.{arith}
+use borrow.Author.Needs.{needs}
+use denote.Ref.{now}
+use lib.Dec.{ltb}
+use lib.ListN.{length, getD, take}
+use Rattle.rules.specs.Lists.{among}
+use Rattle.versions.specs.Versions.{versionAt, versionsOf, newest, isRow, stays}
+use Rattle.table.specs.Table.{Next}
+use Rattle.table.specs.Laws.{next-within}
+use Rattle.newest.specs.Newest.{newestRows}
+use Rattle.newest.specs.Laws.{named, kept-row}
+use Rattle.newest.proofs.checkpoint.mark_kept.Statement.{statement}
+use Rattle.newest.proofs.checkpoint.mark_kept.Tie as tie
+
+last-first : (a b c : Bool) → (a || (b || c)) ≡ (c || (a || b))
+last-first true b true = refl
+last-first true b false = refl
+last-first false true true = refl
+last-first false true false = refl
+last-first false false true = refl
+last-first false false false = refl
+
+marked : (ks ts vs : List ℕ) (t n : ℕ) {a b a' b' : List ℕ} {m : ℕ} → Next (newestRows ks ts t n) a b a' b' m → (i : ℕ) (late also all : Bool)
+    → late ≡ ltb t (getD ts i 0) → also ≡ (among i (take m b') || late) → all ≡ (isRow i (newest 0 t (versionsOf n ks ts vs)) || also)
+    → all ≡ stays t (versionsOf n ks ts vs) i (versionAt i ks ts vs)
+marked ks ts vs t n {b' = b'} {m = m} w i late also all p q r =
+    rw (r, q, p)
+    (last-first (isRow i (newest 0 t (versionsOf n ks ts vs))) (among i (take m b')) (ltb t (getD ts i 0)) ∙ rw (kept-row ks ts t n w vs i))
+
+newest-rows-requires : tie.Need-newest-rows-requires
+newest-rows-requires c κs = search needs
+
+mark-late-requires : tie.Need-mark-late-requires
+mark-late-requires c κs = search needs
+
+mark-named-requires : tie.Need-mark-named-requires
+mark-named-requires c κs =
+    let l = c .before .before .before .before in
+    let g = l .before .before .before .before .before .before in
+    let s = g .before .before .before .before .before .before .before .before in
+    let a = s .args in (
+      next-within _ _ _ _ _ _ (g .newest-rows .ensures) .in-values,
+      λ x h. omega (arith, named (now (a .keys)) (now (a .times)) (a .t) (a .used) (g .newest-rows .ensures) x h),
+    )
+
+mark-zero-requires : tie.Need-mark-zero-requires
+mark-zero-requires c κs = search needs
+
+same-length : tie.Need-same-length
+same-length c = search needs
+
+same-length-2 : tie.Need-same-length-2
+same-length-2 c = search needs
+
+same-length-3 : tie.Need-same-length-3
+same-length-3 c = search needs
+
+returns : tie.Need-returns
+returns c values i h =
+    let z = c .before .before in
+    let m = z .before .before .before .before in
+    let l = m .before .before .before .before .before in
+    let g = l .before .before .before .before .before .before in
+    let s = g .before .before .before .before .before .before .before .before in
+    let a = s .args in
+    marked (now (a .keys)) (now (a .times)) values (a .t) (a .used) (g .newest-rows .ensures) i _ _ _ (l .mark-late .ensures i h) (m .mark-named .ensures i)
+    (z .mark-zero .ensures values i)
+
+pub mark-kept-spec : {M : Type 1} → statement M
+mark-kept-spec =
+    tie.close
+    (tie.spec
+    newest-rows-requires
+    mark-late-requires
+    mark-named-requires
+    mark-zero-requires
+    same-length
+    same-length-2
+    same-length-3
+    returns)

@@ -1,0 +1,80 @@
+-- `newest::checkpoint::mark_late` meets its contract. The loop's invariant: the first i marks say which rows are late.
+-- The measure is how many rows are left.
+use mathlib.Core.Path.{_≡_, refl, _∙_}
+use mathlib.Core.Bool.{Bool, false}
+use mathlib.Core.List.{List}
+use Prim.Native.Nat.{ℕ, _+_, _-_, _≤_, _<_}
+use native.Mathlib.Omega.{arith}
+use borrow.Author.Count.{below-more}
+use borrow.Author.Needs.{needs}
+use denote.Ref.{now}
+use lib.Dec.{ltb}
+use lib.ListN.{length, getD, set, length-set}
+use lib.Seq.{getD-set-same, getD-set-other}
+use Rattle.newest.proofs.checkpoint.mark_late.Statement.{statement}
+use Rattle.newest.proofs.checkpoint.mark_late.Tie as tie
+
+-- row j's mark says whether the row is late
+abbrev Marked : List Bool → List ℕ → ℕ → ℕ → Type 0
+Marked marks ts t j = getD marks j false ≡ ltb t (getD ts j 0)
+
+more : (marks : List Bool) (ts : List ℕ) (t i : ℕ) → i < length marks → ((j : ℕ) → j < i → Marked marks ts t j)
+    → (j : ℕ) → j < i + 1 → Marked (set marks i (ltb t (getD ts i 0))) ts t j
+more marks ts t i l h =
+    below-more (Marked (set marks i (ltb t (getD ts i 0))) ts t) i
+    (λ j m. getD-set-other marks i j (ltb t (getD ts i 0)) false (omega arith) ∙ h j m)
+    (getD-set-same marks i (ltb t (getD ts i 0)) false l)
+
+abbrev Inv-loop : tie.InvT-loop
+Inv-loop times used t marks₀ i₀ marks i =
+    (i ≤ used) × (length marks ≡ length marks₀) × ((j : ℕ) → j < i → Marked marks times t j)
+
+abbrev μ-loop : tie.MeasureT-loop
+μ-loop times used t marks₀ i₀ marks i = used - i
+
+loop-holds : tie.Need-loop-holds Inv-loop μ-loop
+loop-holds c = (omega arith, refl, λ j l. absurd (omega arith))
+
+mul-marks : tie.Need-mul-marks Inv-loop μ-loop
+mul-marks c = search needs
+
+shared-slice-read-marks : tie.Need-shared-slice-read-marks Inv-loop μ-loop
+shared-slice-read-marks c = search needs
+
+slice-write-marks : tie.Need-slice-write-marks Inv-loop μ-loop
+slice-write-marks c = search needs
+
+add-i : tie.Need-add-i Inv-loop μ-loop
+add-i c = search needs
+
+loop-less : tie.Need-loop-less Inv-loop μ-loop
+loop-less c = search needs
+
+loop-again : tie.Need-loop-again Inv-loop μ-loop
+loop-again c =
+    let l = c .before .before .loop in
+    let a = c .before .before .before .args in
+    (omega arith, simp length-set (l .inv .1), more (l .marks) (now (a .times)) (a .t) (l .i) (omega arith) (l .inv .2))
+
+same-length : tie.Need-same-length Inv-loop μ-loop
+same-length c = c .before .loop .inv .1
+
+returns : tie.Need-returns Inv-loop μ-loop
+returns c i h =
+    c .before .loop .inv .2 i (omega arith)
+
+pub mark-late-spec : {M : Type 1} → statement M
+mark-late-spec =
+    tie.close
+    (tie.spec
+    Inv-loop
+    μ-loop
+    loop-holds
+    mul-marks
+    shared-slice-read-marks
+    slice-write-marks
+    add-i
+    loop-less
+    loop-again
+    same-length
+    returns)

@@ -1,0 +1,79 @@
+-- `newest::checkpoint::mark_zero` meets its contract: the row that the search finds is marked, or there is none.
+use mathlib.Core.Path.{_≡_, sym, _∙_}
+use mathlib.Core.Bool.{Bool, true, false, _||_}
+use mathlib.Core.List.{List}
+use Prim.Native.Nat.{ℕ, _<_}
+use native.Mathlib.Omega.{arith}
+use borrow.Author.Needs.{needs}
+use borrow.Author.Tests.{eqb-true, eqb-false}
+use denote.Ref.{now}
+use lib.Dec.{eqb}
+use lib.ListN.{length, getD, set}
+use lib.Seq.{getD-set-same, getD-set-other}
+use Rattle.rules.specs.Bools.{split}
+use Rattle.column.specs.declared.Found.{Found}
+use Rattle.column.specs.declared.Found.the-variants.{At, Nothing}
+use Rattle.versions.specs.Versions.{versionsOf, newest, rowOf, isRow}
+use Rattle.versions.specs.Laws.{found-version, found-newest, none-found}
+use Rattle.newest.proofs.checkpoint.mark_zero.Statement.{statement}
+use Rattle.newest.proofs.checkpoint.mark_zero.Tie as tie
+
+module _ (ks ts : List ℕ) (n t : ℕ) (marks : List Bool) (f : Found) (h : (vs : List ℕ) → f ≡ rowOf (newest 0 t (versionsOf n ks ts vs))) where
+  within : (j : ℕ) → f ≡ At j → j < n
+  within j e = found-newest 0 t ks ts ks n (sym (h ks) ∙ e) .row
+
+  found : (j : ℕ) → f ≡ At j → j < length marks → (vs : List ℕ) (i : ℕ)
+      → getD (set marks j true) i false ≡ (isRow i (newest 0 t (versionsOf n ks ts vs)) || getD marks i false)
+  found j e l vs i =
+      rw (found-version 0 t ks ts vs n (sym (h vs) ∙ e))
+      (split (eqb i j)
+      (λ q. rw (q, eqb-true i j q) (getD-set-same marks j true false l))
+      (λ q. rw q (getD-set-other marks j i true false (eqb-false i j q))))
+
+  none : f ≡ Nothing → (vs : List ℕ) (i : ℕ) → getD marks i false ≡ (isRow i (newest 0 t (versionsOf n ks ts vs)) || getD marks i false)
+  none e vs i = rw (none-found 0 t ks ts vs n (sym (h vs) ∙ e))
+
+newest-row-requires : tie.Need-newest-row-requires
+newest-row-requires c κs = search needs
+
+enum-known-found : tie.Need-enum-known-found
+enum-known-found c = search needs
+
+slice-write-marks : tie.Need-slice-write-marks
+slice-write-marks c =
+    let f = c .before in
+    let g = f .before .before in
+    let a = g .before .before .before .before .args in
+    omega (arith, within (now (a .keys)) (now (a .times)) (a .used) (a .t) (now (a .marks)) _ (g .newest-row .ensures) _ (f .found .given .1))
+
+enum-told : tie.Need-enum-told
+enum-told c = search needs
+
+same-length : tie.Need-same-length
+same-length c = search needs
+
+returns : tie.Need-returns
+returns c =
+    let f = c .before in
+    let g = f .before .before in
+    let a = g .before .before .before .before .args in
+    let l = within (now (a .keys)) (now (a .times)) (a .used) (a .t) (now (a .marks)) _ (g .newest-row .ensures) _ (f .found .given .1) in
+    found (now (a .keys)) (now (a .times)) (a .used) (a .t) (now (a .marks)) _ (g .newest-row .ensures) _ (f .found .given .1) (omega arith)
+
+returns-2 : tie.Need-returns-2
+returns-2 c =
+    let g = c .before .before in
+    let a = g .before .before .before .before .args in
+    none (now (a .keys)) (now (a .times)) (a .used) (a .t) (now (a .marks)) _ (g .newest-row .ensures) (c .enum-told .given .1)
+
+pub mark-zero-spec : {M : Type 1} → statement M
+mark-zero-spec =
+    tie.close
+    (tie.spec
+    newest-row-requires
+    enum-known-found
+    slice-write-marks
+    enum-told
+    same-length
+    returns
+    returns-2)

@@ -1,0 +1,3 @@
+pub mod Newest
+pub mod Laws
+pub mod Unique

@@ -1,0 +1,178 @@
+// Rule 3.10: a checkpoint keeps the versions after its time and, for each key, its newest at or before it.
+ghost use mathlib.Core.Path.{_≡_};
+ghost use mathlib.Core.Bool.{false, _||_};
+ghost use mathlib.Core.List.{List};
+ghost use Prim.Native.Nat.{ℕ, _≤_, _<_};
+ghost use lib.Dec.{ltb};
+ghost use lib.ListN.{length, getD, take};
+ghost use Rattle.rules.specs.Lists.{among};
+ghost use Rattle.versions.specs.Versions.{versionAt, versionsOf, newest, isRow, stays};
+ghost use Rattle.versions.specs.Columns.{Lent, marked, Moved, Cleared, Kept};
+ghost use Rattle.table.specs.Table.{Spare};
+use column::Found;
+use versions::Version;
+
+// Marks those of the first rows that are after t.
+fn mark_late(times: &[u64], used: usize, t: u64, marks: &mut [bool])
+    requires { ⌜ (used ≤ length (now times)) × (used ≤ length (now marks)) ⌝ }
+    ensures { λ _. ⌜ ((i : ℕ) → i < used → getD (now (marks .exit)) i false ≡ ltb t (getD (now (times .entry)) i 0)) ⌝ }
+{
+    let mut i = 0;
+    while i < used {
+        marks[i] = times[i] > t;
+        i += 1;
+    }
+}
+
+// Marks the rows that the first cells of a column name.
+fn mark_named(places: &[u32], n: usize, marks: &mut [bool])
+    requires { ⌜ (n ≤ length (now places)) × ((x : ℕ) → x < n → getD (now places) x 0 < length (now marks)) ⌝ }
+    ensures { λ _. ⌜ ((i : ℕ) → getD (now (marks .exit)) i false ≡ (among i (take n (now (places .entry))) || getD (now (marks .entry)) i false)) ⌝ }
+{
+    let mut x = 0;
+    while x < n {
+        marks[places[x] as usize] = true;
+        x += 1;
+    }
+}
+
+// Marks the newest version of key 0, which no table has.
+fn mark_zero(keys: &[u32], times: &[u64], used: usize, t: u64, marks: &mut [bool])
+    requires { ⌜ (used ≤ length (now keys)) × (used ≤ length (now times)) × (used ≤ length (now marks)) ⌝ }
+    ensures { λ _. ⌜ ((values : List ℕ) (i : ℕ) → getD (now (marks .exit)) i false ≡ (isRow i (newest 0 t (versionsOf used (now (keys .entry)) (now (times .entry)) values)) || getD (now (marks .entry)) i false)) ⌝ }
+{
+    let found = versions::newest_row(keys, times, used, 0, t);
+    match found {
+        Found::At(j) => {
+            marks[j] = true;
+        }
+        Found::Nothing => {}
+    }
+}
+
+// Marks the rows that are kept, by the table of the newest rows, for which two columns are lent. All are decided before one moves.
+fn mark_kept(
+    keys: &[u32],
+    times: &[u64],
+    used: usize,
+    t: u64,
+    listed: &mut [u32],
+    places: &mut [u32],
+    marks: &mut [bool],
+)
+    requires { do ⌜ (used ≤ (← ⟦Version::ROWS⟧)) × (used ≤ length (now keys)) × (used ≤ length (now times)) × Spare (now listed) (now places) used × (used ≤ length (now marks)) ⌝ }
+    ensures { λ _. ⌜ ((values : List ℕ) (i : ℕ) → i < used → getD (now (marks .exit)) i false ≡ stays t (versionsOf used (now (keys .entry)) (now (times .entry)) values) i (versionAt i (now (keys .entry)) (now (times .entry)) values)) ⌝ }
+{
+    let n = crate::newest_rows(keys, times, used, t, listed, places);
+    mark_late(times, used, t, marks);
+    mark_named(places, n, marks);
+    mark_zero(keys, times, used, t, marks);
+}
+
+// Moves the marked rows up, in order, and answers how many there are.
+fn move_up(
+    keys: &mut [u32],
+    times: &mut [u64],
+    values: &mut [u32],
+    used: usize,
+    marks: &[bool],
+) -> usize
+    requires { ⌜ Lent used (now keys) (now times) (now values) × (used ≤ length (now marks)) ⌝ }
+    ensures { λ r. ⌜ Moved (marked (now (marks .entry)) (versionsOf used (now (keys .entry)) (now (times .entry)) (now (values .entry)))) (now (keys .entry)) (now (times .entry)) (now (values .entry)) (now (keys .exit)) (now (times .exit)) (now (values .exit)) r ⌝ }
+{
+    let mut kept = 0;
+    let mut i = 0;
+    while i < used {
+        if marks[i] {
+            keys[kept] = keys[i];
+            times[kept] = times[i];
+            values[kept] = values[i];
+            kept += 1;
+        }
+        i += 1;
+    }
+    kept
+}
+
+// Makes the rows from `from` up to `to` zero.
+fn clear(keys: &mut [u32], times: &mut [u64], values: &mut [u32], from: usize, to: usize)
+    requires { ⌜ Lent to (now keys) (now times) (now values) × (from ≤ to) ⌝ }
+    ensures { λ _. ⌜ Cleared from to (now (keys .entry)) (now (times .entry)) (now (values .entry)) (now (keys .exit)) (now (times .exit)) (now (values .exit)) ⌝ }
+{
+    let mut i = from;
+    while i < to {
+        keys[i] = 0;
+        times[i] = 0;
+        values[i] = 0;
+        i += 1;
+    }
+}
+
+// A checkpoint at t, for which two columns and marks are lent.
+fn keep(
+    keys: &mut [u32],
+    times: &mut [u64],
+    values: &mut [u32],
+    used: usize,
+    t: u64,
+    listed: &mut [u32],
+    places: &mut [u32],
+    marks: &mut [bool],
+) -> usize
+    requires { do ⌜ Lent used (now keys) (now times) (now values) × (used ≤ (← ⟦Version::ROWS⟧)) × Spare (now listed) (now places) used × (used ≤ length (now marks)) ⌝ }
+    ensures { λ r. ⌜ Kept t used (now (keys .entry)) (now (times .entry)) (now (values .entry)) (now (keys .exit)) (now (times .exit)) (now (values .exit)) r ⌝ }
+{
+    mark_kept(keys, times, used, t, listed, places, marks);
+    let kept = move_up(keys, times, values, used, marks);
+    clear(keys, times, values, kept, used);
+    kept
+}
+
+// A checkpoint of few versions, so that small columns are enough.
+fn keep_few(keys: &mut [u32], times: &mut [u64], values: &mut [u32], used: usize, t: u64) -> usize
+    requires { do ⌜ Lent used (now keys) (now times) (now values) × (used < (← ⟦Version::FEW⟧)) ⌝ }
+    ensures { λ r. ⌜ Kept t used (now (keys .entry)) (now (times .entry)) (now (values .entry)) (now (keys .exit)) (now (times .exit)) (now (values .exit)) r ⌝ }
+{
+    let mut listed = [0u32; Version::FEW];
+    let mut places = [0u32; Version::FEW];
+    let mut marks = [false; Version::FEW];
+    keep(
+        keys,
+        times,
+        values,
+        used,
+        t,
+        &mut listed,
+        &mut places,
+        &mut marks,
+    )
+}
+
+// A checkpoint at t: kept versions move up in order, freed rows are zero. Answers how many versions are kept.
+pub fn keep_from(
+    keys: &mut [u32],
+    times: &mut [u64],
+    values: &mut [u32],
+    used: usize,
+    t: u64,
+) -> usize
+    requires { do ⌜ Lent used (now keys) (now times) (now values) × (used ≤ (← ⟦Version::ROWS⟧)) ⌝ }
+    ensures { λ r. ⌜ Kept t used (now (keys .entry)) (now (times .entry)) (now (values .entry)) (now (keys .exit)) (now (times .exit)) (now (values .exit)) r ⌝ }
+{
+    if used < Version::FEW {
+        return keep_few(keys, times, values, used, t);
+    }
+    let mut listed = [0u32; Version::ASIDE];
+    let mut places = [0u32; Version::ASIDE];
+    let mut marks = [false; Version::ASIDE];
+    keep(
+        keys,
+        times,
+        values,
+        used,
+        t,
+        &mut listed,
+        &mut places,
+        &mut marks,
+    )
+}

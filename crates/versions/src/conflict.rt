@@ -1,0 +1,93 @@
+// Rule 3.6: whether a key has a version later than a snapshot. The versions in front that are not later are passed once for all keys of a commit:
+// in a store that calls wrote these are all that were there when it began.
+ghost use mathlib.Core.Path.{_≡_};
+ghost use mathlib.Core.Bool.{false};
+ghost use mathlib.Core.List.{List};
+ghost use Prim.Native.Nat.{ℕ, _≤_};
+ghost use lib.Dec.{ltb};
+ghost use lib.ListN.{length};
+ghost use Rattle.versions.specs.Versions.{versionsOf, later};
+ghost use Rattle.versions.specs.Search.{some, Early, FirstLate};
+use crate::Version;
+
+// Whether a cell holds a time later than s. No cell ends the loop, as in the search for a key.
+fn has_late(cells: &[u64], s: u64) -> bool
+    ensures { λ r. ⌜ r ≡ some (λ x. ltb s x) (now (cells .entry)) ⌝ }
+{
+    let mut met = false;
+    let mut i = 0;
+    while i < cells.len() {
+        if cells[i] > s {
+            met = true;
+        }
+        i += 1;
+    }
+    met
+}
+
+// How many rows in front can be passed, 16 at a time.
+fn pass_early(times: &[u64], used: usize, s: u64) -> usize
+    requires { ⌜ used ≤ length (now times) ⌝ }
+    ensures { λ r. ⌜ (r ≤ used) × Early s (now (times .entry)) r ⌝ }
+{
+    let mut i = 0;
+    while used - i >= Version::WIDE {
+        let end = i + Version::WIDE;
+        if has_late(&times[i..end], s) {
+            return i;
+        }
+        i = end;
+    }
+    i
+}
+
+// The first row whose time is later than s, or how many rows there are.
+pub fn first_late(times: &[u64], used: usize, s: u64) -> usize
+    requires { ⌜ used ≤ length (now times) ⌝ }
+    ensures { λ r. ⌜ FirstLate s (now (times .entry)) used r ⌝ }
+{
+    let mut i = pass_early(times, used, s);
+    while i < used {
+        if times[i] > s {
+            return i;
+        }
+        i += 1;
+    }
+    i
+}
+
+// Whether there is a version of k later than s up to row `to`, where there is none before row `from`: the rows between, one by one.
+fn is_later_among(keys: &[u32], times: &[u64], from: usize, to: usize, k: u32, s: u64) -> bool
+    requires { ⌜ (from ≤ to) × (to ≤ length (now keys)) × (to ≤ length (now times)) × ((values : List ℕ) → later s k (versionsOf from (now keys) (now times) values) ≡ false) ⌝ }
+    ensures { λ r. ⌜ ((values : List ℕ) → r ≡ later s k (versionsOf to (now (keys .entry)) (now (times .entry)) values)) ⌝ }
+{
+    let mut i = from;
+    while i < to {
+        if keys[i] == k {
+            if times[i] > s {
+                return true;
+            }
+        }
+        i += 1;
+    }
+    false
+}
+
+// Rule 3.6: whether there is a version of k later than s, where the rows before `from` have no later time.
+pub fn is_later(keys: &[u32], times: &[u64], from: usize, used: usize, k: u32, s: u64) -> bool
+    requires { ⌜ (from ≤ used) × (used ≤ length (now keys)) × (used ≤ length (now times)) × Early s (now times) from ⌝ }
+    ensures { λ r. ⌜ ((values : List ℕ) → r ≡ later s k (versionsOf used (now (keys .entry)) (now (times .entry)) values)) ⌝ }
+{
+    let mut i = from;
+    loop {
+        i = crate::pass(keys, i, used, k);
+        if i >= used {
+            return false;
+        }
+        let end = crate::near(i, used);
+        if is_later_among(keys, times, i, end, k, s) {
+            return true;
+        }
+        i = end;
+    }
+}
