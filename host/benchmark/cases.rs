@@ -17,7 +17,9 @@ pub enum Case {
     Abort,
     Lookup,
     List,
+    ListGapped,
     Checkpoint,
+    CheckpointGapped,
     CheckpointHalf,
     Recover,
 }
@@ -26,7 +28,7 @@ pub enum Case {
 pub type Named = (Case, &'static str);
 
 /// The journal store's calls in the order of the tables. Recover is the last: the map store has all but that.
-pub const JOURNAL: [Named; 12] = [
+pub const JOURNAL: [Named; 14] = [
     (Case::Begin, "begin"),
     (Case::Assign, "update, assign"),
     (Case::Add, "update, add"),
@@ -36,7 +38,9 @@ pub const JOURNAL: [Named; 12] = [
     (Case::Abort, "abort"),
     (Case::Lookup, "lookup at last"),
     (Case::List, "list at last"),
+    (Case::ListGapped, "list, keys with gaps"),
     (Case::Checkpoint, "checkpoint at last"),
+    (Case::CheckpointGapped, "checkpoint, with gaps"),
     (Case::CheckpointHalf, "checkpoint halfway"),
     (Case::Recover, "recover"),
 ];

@@ -13,9 +13,30 @@ const STEP: usize = 37;
 /// What a counter is raised by.
 pub const RAISE: u32 = 3;
 
-/// The register that is the i-th to be touched.
+/// How many registers a sampling head has where keys have gaps.
+const HEAD_REGISTERS: usize = 8;
+
+/// How a register's key is made of its number.
+pub type Keys = fn(usize) -> u32;
+
+/// Keys from 1 up, without gaps.
+pub fn dense(register: usize) -> u32 {
+    register as u32 + 1
+}
+
+/// Keys with gaps: head times 256 plus register.
+pub fn gapped(register: usize) -> u32 {
+    ((register / HEAD_REGISTERS + 1) * 256 + register % HEAD_REGISTERS) as u32
+}
+
+/// The number of the register that is the i-th to be touched.
+fn touched(i: usize, registers: usize) -> usize {
+    i * STEP % registers.max(1)
+}
+
+/// The key of that register, keys without gaps.
 pub fn register(i: usize, registers: usize) -> u32 {
-    (i * STEP % registers.max(1)) as u32 + 1
+    dense(touched(i, registers))
 }
 
 /// The value that a call was accepted with.
@@ -39,8 +60,12 @@ impl JournalStore {
 
     /// So many registers in the base, and so many transactions of two updates in the journal.
     pub fn filled(registers: usize, transactions: usize) -> Self {
+        JournalStore::filled_with(dense, registers, transactions)
+    }
+
+    pub fn filled_with(key: Keys, registers: usize, transactions: usize) -> Self {
         let mut s = JournalStore::empty();
-        let keys: Vec<u32> = (1..=registers as u32).collect();
+        let keys: Vec<u32> = (0..registers).map(key).collect();
         for part in keys.chunks(KEYS) {
             let n = s.begun(s.last);
             part.iter().for_each(|&k| s.assigned(n, k, k));
@@ -48,7 +73,7 @@ impl JournalStore {
         }
         taken(Plain::checkpoint(&mut s.head, &mut s.lent, s.last));
         for i in 0..transactions {
-            let n = s.updated(s.last, register(2 * i, registers), register(2 * i + 1, registers));
+            let n = s.updated(s.last, key(touched(2 * i, registers)), key(touched(2 * i + 1, registers)));
             s.committed(n);
         }
         s
@@ -95,9 +120,14 @@ impl MapStore {
 
     /// So many transactions of two updates, spread over the registers.
     pub fn filled(registers: usize, transactions: usize) -> Self {
+        MapStore::filled_with(dense, registers, transactions)
+    }
+
+    pub fn filled_with(key: Keys, registers: usize, transactions: usize) -> Self {
         let mut s = MapStore::empty();
         for i in 0..transactions {
-            let n = s.updated(s.head.last, register(2 * i, registers), register(2 * i + 1, registers));
+            let last = s.head.last;
+            let n = s.updated(last, key(touched(2 * i, registers)), key(touched(2 * i + 1, registers)));
             let later = s.head.last + 1;
             taken(Plain::commit(&mut s.head, &mut s.lent, n, later));
         }

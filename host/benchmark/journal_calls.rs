@@ -1,7 +1,7 @@
 //! The journal store's calls, timed one by one.
 
 use crate::cases::{self, pair, Case, Outcome, ASSIGNED, COMPARED, COPIES_EMPTY, COPIES_FILLED};
-use crate::fixture::{register, JournalStore, RAISE, TRANSACTION_RECORDS};
+use crate::fixture::{gapped, register, JournalStore, RAISE, TRANSACTION_RECORDS};
 use crate::library::{Answer, Head};
 use crate::limits::{JOURNAL_RECORDS, LIST_ROWS, RECORD_BYTES};
 use crate::report::Pair;
@@ -59,11 +59,13 @@ fn listing<C: JournalCalls>(s: &JournalStore) -> Timed {
     (ns, outcome)
 }
 
-/// The stores of one size: with the journal as full as said, and with one transaction less, so that one can run.
+/// The stores of one size: with the journal as full as said, with one transaction less, so that one can run, and with
+/// gaps between the keys.
 struct Level {
     registers: usize,
     whole: JournalStore,
     short: JournalStore,
+    gapped: JournalStore,
 }
 
 /// Two registers that nobody has written, so that a commit with an old snapshot meets no conflict.
@@ -78,6 +80,7 @@ impl Level {
             registers,
             whole: JournalStore::filled(registers, transactions),
             short: JournalStore::filled(registers, transactions.saturating_sub(1)),
+            gapped: JournalStore::filled_with(gapped, registers, transactions),
         }
     }
 
@@ -95,6 +98,7 @@ impl Level {
             }
             Case::Commit | Case::Abort => s.updated(last, 1, 2),
             Case::CommitOld => s.updated(low, k, other),
+            Case::ListGapped | Case::CheckpointGapped => return (self.gapped.clone(), 0),
             _ => return (self.whole.clone(), 0),
         };
         (s, n)
@@ -112,8 +116,8 @@ impl Level {
             Case::Commit | Case::CommitOld => again(&s, |h, l, _| C::commit(h, l, n, s.last + 1)),
             Case::Abort => again(&s, |h, l, _| C::abort(h, l, n)),
             Case::Lookup => again(&s, |h, l, i| C::lookup(h, l, key(i), s.last)),
-            Case::List => listing::<C>(&s),
-            Case::Checkpoint => on_copies(&s, |h, l| C::checkpoint(h, l, s.last)),
+            Case::List | Case::ListGapped => listing::<C>(&s),
+            Case::Checkpoint | Case::CheckpointGapped => on_copies(&s, |h, l| C::checkpoint(h, l, s.last)),
             Case::CheckpointHalf => on_copies(&s, |h, l| C::checkpoint(h, l, halfway)),
             Case::Recover => on_copies(&s, |h, l| C::recover(h, l, s.head.used * RECORD_BYTES)),
         }

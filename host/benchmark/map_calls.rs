@@ -1,7 +1,7 @@
 //! The map store's calls, timed one by one.
 
 use crate::cases::{self, pair, Case, ASSIGNED, COMPARED, COPIES_EMPTY, COPIES_FILLED};
-use crate::fixture::{register, MapStore, RAISE, TRANSACTION_VERSIONS};
+use crate::fixture::{gapped, register, MapStore, RAISE, TRANSACTION_VERSIONS};
 use crate::library::{Answer, MapHead};
 use crate::limits::LIST_ROWS;
 use crate::report::Pair;
@@ -83,11 +83,13 @@ fn listing<C: MapCalls>(s: &MapStore) -> Timed {
     (ns, outcome)
 }
 
-/// The stores of one size: with as many versions as said, and with one transaction less, so that one can commit.
+/// The stores of one size: with as many versions as said, with one transaction less, so that one can commit, and with
+/// gaps between the keys.
 struct Level {
     registers: usize,
     whole: MapStore,
     short: MapStore,
+    gapped: MapStore,
 }
 
 impl Level {
@@ -97,6 +99,7 @@ impl Level {
             registers,
             whole: MapStore::filled(registers, transactions),
             short: MapStore::filled(registers, transactions.saturating_sub(1)),
+            gapped: MapStore::filled_with(gapped, registers, transactions),
         }
     }
 
@@ -115,6 +118,7 @@ impl Level {
             Case::Commit | Case::Abort => s.updated(last, 1, 2),
             // Two registers that nobody has written, so that an old snapshot meets no conflict.
             Case::CommitOld => s.updated(low, fresh, fresh + 1),
+            Case::ListGapped | Case::CheckpointGapped => return (self.gapped.clone(), 0),
             _ => return (self.whole.clone(), 0),
         };
         (s, n)
@@ -132,8 +136,8 @@ impl Level {
             Case::Commit | Case::CommitOld => on_heads(&s, |h, l, _| C::commit(h, l, n, last + 1)),
             Case::Abort => on_heads(&s, |h, l, _| C::abort(h, l, n)),
             Case::Lookup => reading(&s, |h, l, i| C::lookup(h, l, key(i), last)),
-            Case::List => listing::<C>(&s),
-            Case::Checkpoint => on_copies(&s, |h, l| C::checkpoint(h, l, last)),
+            Case::List | Case::ListGapped => listing::<C>(&s),
+            Case::Checkpoint | Case::CheckpointGapped => on_copies(&s, |h, l| C::checkpoint(h, l, last)),
             Case::CheckpointHalf => on_copies(&s, |h, l| C::checkpoint(h, l, last / 2)),
             Case::Recover => unreachable!("the map store has no recover"),
         }
