@@ -14,6 +14,7 @@ mod plain;
 mod report;
 #[cfg(sqlite)]
 mod sqlite;
+mod stack;
 mod stores;
 mod table;
 mod timing;
@@ -115,6 +116,9 @@ fn main() {
     );
     map.print_fill();
     print_workload(Path::new(&folder));
+    println!("\n### The stack of a call\n");
+    println!("On a full store; the library's call with its wrapper in the benchmark.\n");
+    stack::print();
     println!("\n### Recovery of a full journal\n");
     report::print_recoveries(&journal_calls::recoveries(BASE_ROWS));
     println!("\n### How the journal store's calls grow with its records\n");
