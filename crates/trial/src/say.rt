@@ -1,99 +1,100 @@
-// One line for each case: what the store gave, what the rule book gives, and whether they are the same.
-use answer::Begun;
-use answer::Done;
-use answer::Got;
-use answer::Listed;
+// Answers made here, and the lines that the program writes.
+use crate::line::Line;
+use crate::marks;
+use host::Answer;
 use libc::STDOUT_FILENO;
-use rules::Value;
 
-// How a line shows an absent key: one more than the highest value.
-pub(crate) const ABSENT: u64 = 4294967296;
+// What a line is answered whose word is no call of the store: no line wants this number.
+pub(crate) const NO_CALL: u32 = 99;
 
-// How a line shows a refused call where it asks for a value, a number or a count.
-pub(crate) const NOTHING: u64 = 18446744073709551615;
+// What the rows hold that are lent to a list, and how many there are.
+pub(crate) const MARK: u32 = 7;
 
-// The line of a case.
-pub(crate) fn case(name: &[u8], got: u64, want: u64) {
-    io::write_all(STDOUT_FILENO, name);
-    io::write_all(STDOUT_FILENO, b" got=");
-    io::print_decimal(STDOUT_FILENO, got);
-    io::write_all(STDOUT_FILENO, b" want=");
-    io::print_decimal(STDOUT_FILENO, want);
-    if got == want {
-        io::write_all(STDOUT_FILENO, b" ok\n");
-        return;
-    }
-    io::write_all(STDOUT_FILENO, b" DIFFERS\n");
-}
+pub(crate) const ROWS: usize = 64;
 
-// The number of section 6 that update, abort, commit, checkpoint and recover gave.
-pub(crate) fn done(a: Done) -> u64 {
-    match a {
-        Done::Accepted => 0,
-        Done::Refused(r) => r.number() as u64,
+// A number alone.
+pub(crate) fn alone(number: u32) -> Answer {
+    Answer {
+        number,
+        present: 0,
+        value: 0,
     }
 }
 
-// The place that refusal 13 gave.
-pub(crate) fn place(a: Done) -> u64 {
-    match a {
-        Done::Accepted => NOTHING,
-        Done::Refused(r) => r.place() as u64,
+// A row of a list, counted from 1, as a number and a value; for row 0 the list's own answer.
+pub(crate) fn row(answer: Answer, listed: &[u32], contents: &[u32], row: usize) -> Answer {
+    if row == 0 {
+        return answer;
+    }
+    let i = row - 1;
+    if i >= listed.len() {
+        return alone(NO_CALL);
+    }
+    if i >= contents.len() {
+        return alone(NO_CALL);
+    }
+    Answer {
+        number: listed[i],
+        present: 1,
+        value: marks::wide(contents[i]),
     }
 }
 
-// The number of section 6 that begin gave.
-pub(crate) fn begun(a: Begun) -> u64 {
-    match a {
-        Begun::Number(_) => 0,
-        Begun::Refused(r) => r.number() as u64,
+// Whether an answer is the one that a line wants.
+pub(crate) fn wanted(line: Line, answer: Answer) -> bool {
+    if answer.number as u64 != line.number {
+        return false;
     }
+    if answer.value != line.value {
+        return false;
+    }
+    line.valued() == (answer.present == 1)
 }
 
-// The transaction number that begin gave.
-pub(crate) fn number(a: Begun) -> u64 {
-    match a {
-        Begun::Number(n) => n as u64,
-        Begun::Refused(_) => NOTHING,
+// Whether a call may leave the cells as it did: a refused one only where they are the same.
+pub(crate) fn kept(answer: Answer, same: bool) -> bool {
+    if answer.number == 0 {
+        return true;
     }
+    same
 }
 
-// The number of section 6 that read or lookup gave.
-pub(crate) fn got(a: Got) -> u64 {
-    match a {
-        Got::Value(_) => 0,
-        Got::Refused(r) => r.number() as u64,
+// The store's name and the text of the line.
+pub(crate) fn begun(journal: bool, text: &[u8]) {
+    if journal {
+        io::write_all(STDOUT_FILENO, b"journal: ");
+    } else {
+        io::write_all(STDOUT_FILENO, b"map: ");
     }
+    io::write_all(STDOUT_FILENO, text);
 }
 
-// The value that read or lookup gave.
-pub(crate) fn value(a: Got) -> u64 {
-    match a {
-        Got::Value(v) => held(v),
-        Got::Refused(_) => NOTHING,
+// A line that is not answered as it wants, with what came, and whether a refused call changed a cell.
+pub(crate) fn differs(journal: bool, text: &[u8], answer: Answer, kept: bool) {
+    begun(journal, text);
+    io::write_all(STDOUT_FILENO, b" DIFFERS, came ");
+    io::print_decimal(STDOUT_FILENO, answer.number as u64);
+    if answer.present == 1 {
+        io::write_all(STDOUT_FILENO, b" ");
+        io::print_decimal(STDOUT_FILENO, answer.value);
     }
+    if !kept {
+        io::write_all(STDOUT_FILENO, b", and cells changed");
+    }
+    io::write_all(STDOUT_FILENO, b"\n");
 }
 
-// What a register holds.
-fn held(v: Value) -> u64 {
-    match v {
-        Value::Absent => ABSENT,
-        Value::Present(x) => x as u64,
-    }
+// A line that is answered as it wants.
+pub(crate) fn agrees(journal: bool, text: &[u8]) {
+    begun(journal, text);
+    io::write_all(STDOUT_FILENO, b" ok\n");
 }
 
-// The number of section 6 that list gave.
-pub(crate) fn listed(a: Listed) -> u64 {
-    match a {
-        Listed::Rows(_) => 0,
-        Listed::Refused(r) => r.number() as u64,
-    }
-}
-
-// The count of rows that list gave.
-pub(crate) fn rows(a: Listed) -> u64 {
-    match a {
-        Listed::Rows(n) => n as u64,
-        Listed::Refused(_) => NOTHING,
-    }
+// How many answers were as wanted, and how many not.
+pub(crate) fn total(journal: bool, right: u64, wrong: u64) {
+    begun(journal, b"answers as wanted ");
+    io::print_decimal(STDOUT_FILENO, right);
+    io::write_all(STDOUT_FILENO, b", others ");
+    io::print_decimal(STDOUT_FILENO, wrong);
+    io::write_all(STDOUT_FILENO, b"\n");
 }
