@@ -40,25 +40,32 @@ impl Line {
 
     pub(crate) const RECOVER: u32 = 0x766572;
 
-    // What else a line can do to a store: begin with an empty one, or put bytes into its journal; and what it can ask: a row of a list.
+    // What else can be done to a store: begin with an empty one, put bytes into its journal, and sum up its cells, which no line asks for.
     pub(crate) const STORE: u32 = 0x6f7265;
 
     pub(crate) const FILL: u32 = 0x696c6c;
 
-    pub(crate) const ROW: u32 = 0x726f77;
+    pub(crate) const SUM: u32 = 0x73756d;
 
-    // What a line can say of the lines behind it.
+    // What a line says of the lines behind it: which are repeated, for which x they are, and for which stores: for the journal store and the map
+    // store, for one of the two, or for a journal store with less room or all the room there can be.
     pub(crate) const EACH: u32 = 0x616368;
+
+    pub(crate) const AGAIN: u32 = 0x61696e;
 
     pub(crate) const WHEN: u32 = 0x68656e;
 
-    pub(crate) const AGAIN: u32 = 0x61696e;
+    pub(crate) const BOTH: u32 = 0x6f7468;
 
     pub(crate) const JOURNAL: u32 = 0x6e616c;
 
     pub(crate) const MAP: u32 = 0x6d6170;
 
-    pub(crate) const BOTH: u32 = 0x6f7468;
+    pub(crate) const SINGLE: u32 = 0x676c65;
+
+    pub(crate) const NARROW: u32 = 0x726f77;
+
+    pub(crate) const LONG: u32 = 0x6f6e67;
 
     // The place of the wanted answer, and the one from which nothing is read.
     const WANT: u8 = 3;

@@ -2,34 +2,46 @@
 // file `stdin` beside this folder; at its top stands what its lines mean.
 use journal::Journal;
 use libc::STDIN_FILENO;
+use line::Line;
 use rules::Record;
 
 mod line;
-mod marks;
 mod on_journal;
 mod on_map;
 mod run;
 mod say;
+mod sums;
 
 // Bytes enough for the script.
 const SCRIPT: usize = 32768;
 
-// As many registers or versions as the script uses at the most.
+// Rows of the base, or versions, at the most.
 const ROWS: usize = 64;
 
-// The script on one of the stores, with cells of its own.
-fn trial(script: &[u8], journal: bool) {
+// Bytes of a journal of 100 records, and of the longest one.
+const BYTES: usize = 100 * Record::BYTES;
+
+const ALL_BYTES: usize = Journal::RECORDS * Record::BYTES;
+
+// The script on one of the stores, which is lent so many rows and bytes of its own.
+fn trial(script: &[u8], store: u32, rows: usize, count: usize) {
     let mut keys = [0u32; ROWS];
     let mut times = [0u64; ROWS];
     let mut values = [0u32; ROWS];
-    let mut bytes = [0u8; Journal::RECORDS * Record::BYTES];
+    let mut bytes = [0u8; ALL_BYTES];
+    if rows > ROWS {
+        return;
+    }
+    if count > ALL_BYTES {
+        return;
+    }
     run::run(
         script,
-        journal,
-        &mut keys,
-        &mut times,
-        &mut values,
-        &mut bytes,
+        store,
+        &mut keys[0..rows],
+        &mut times[0..rows],
+        &mut values[0..rows],
+        &mut bytes[0..count],
     );
 }
 
@@ -37,6 +49,9 @@ fn main() {
     let mut buffer = [0u8; SCRIPT];
     let count = io::read_full(STDIN_FILENO, &mut buffer);
     let script = &buffer[..count];
-    trial(script, true);
-    trial(script, false);
+    trial(script, Line::JOURNAL, ROWS, BYTES);
+    trial(script, Line::SINGLE, ROWS, Record::BYTES);
+    trial(script, Line::NARROW, 1, BYTES);
+    trial(script, Line::LONG, ROWS, ALL_BYTES);
+    trial(script, Line::MAP, ROWS, BYTES);
 }

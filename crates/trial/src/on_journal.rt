@@ -1,7 +1,7 @@
 // The script's calls on the journal store.
 use crate::line::Line;
-use crate::marks;
 use crate::say;
+use crate::sums;
 use host::Answer;
 use host::JournalOutcome;
 use host::journal_calls;
@@ -9,7 +9,7 @@ use journal::Base;
 use journal::Journal;
 use journal_store::Head;
 
-// The head of an empty store with another next number.
+// An empty store whose next number is given.
 fn numbered(floor: u32) -> JournalOutcome {
     JournalOutcome {
         head: Head {
@@ -22,63 +22,24 @@ fn numbered(floor: u32) -> JournalOutcome {
     }
 }
 
-// The calls that change the journal alone.
-fn written(
-    h: Head,
-    keys: &[u32],
-    values: &[u32],
-    bytes: &mut [u8],
-    word: u32,
-    a: u64,
-    b: u64,
-    c: u64,
-) -> JournalOutcome {
-    let n = (a % 4294967296) as u32;
-    let k = (b % 4294967296) as u32;
-    let v = (c % 4294967296) as u32;
-    match word {
-        Line::BEGIN => journal_calls::registers_journal_begin(h, keys, values, bytes, a),
-        Line::ASSIGN => journal_calls::registers_journal_assign(h, keys, values, bytes, n, k, v),
-        Line::ADD => journal_calls::registers_journal_add(h, keys, values, bytes, n, k, v),
-        Line::ABORT => journal_calls::registers_journal_abort(h, keys, values, bytes, n),
-        Line::COMMIT => journal_calls::registers_journal_commit(h, keys, values, bytes, n, b),
-        _ => journal_calls::registers_journal_recover(h, keys, values, bytes, a as usize),
-    }
+// A sum of the head and all cells.
+fn sum(h: Head, keys: &[u32], values: &[u32], bytes: &[u8]) -> Answer {
+    let base = h.base;
+    let journal = h.journal;
+    let bounds = sums::more(h.low, h.floor as u64);
+    let counts = sums::more(sums::more(bounds, base.rows as u64), journal.used as u64);
+    say::beside(sums::of_bytes(
+        sums::of_column(sums::of_column(counts, keys), values),
+        bytes,
+    ))
 }
 
-// The calls that change nothing.
-fn asked(h: Head, keys: &[u32], values: &[u32], bytes: &[u8], line: Line) -> JournalOutcome {
-    let word = line.word;
-    let a = line.a;
-    let b = line.b;
-    let n = (a % 4294967296) as u32;
-    let k = (b % 4294967296) as u32;
-    let answer = match word {
-        Line::READ => journal_calls::registers_journal_read(h, keys, values, bytes, n, k),
-        Line::LOOKUP => journal_calls::registers_journal_lookup(h, keys, values, bytes, n, b),
-        Line::LIST => listed(h, keys, values, bytes, a, b as usize, 0),
-        Line::ROW => listed(h, keys, values, bytes, b, line.c as usize, a as usize),
-        _ => say::alone(say::NO_CALL),
-    };
-    JournalOutcome { head: h, answer }
-}
-
-// The list at t into so many of the lent rows; then a row of it, or for row 0 its answer.
-fn listed_in(
-    h: Head,
-    keys: &[u32],
-    values: &[u32],
-    bytes: &[u8],
-    t: u64,
-    rows: usize,
-    row: usize,
-    listed: &mut [u32],
-    contents: &mut [u32],
-) -> Answer {
-    if rows > listed.len() {
-        return say::alone(say::NO_CALL);
-    }
-    if rows > contents.len() {
+// The list at t into so many rows, or one of the rows after it.
+fn listed(h: Head, keys: &[u32], values: &[u32], bytes: &[u8], line: Line) -> Answer {
+    let rows = line.b as usize;
+    let mut listed = [say::MARK; say::ROWS];
+    let mut contents = [say::MARK; say::ROWS];
+    if rows > say::ROWS {
         return say::alone(say::NO_CALL);
     }
     let answer = journal_calls::registers_journal_list(
@@ -86,74 +47,80 @@ fn listed_in(
         keys,
         values,
         bytes,
-        t,
+        line.a,
         &mut listed[0..rows],
         &mut contents[0..rows],
     );
-    say::row(answer, listed, contents, row)
+    say::row(answer, &listed, &contents, line.c as usize)
 }
 
-// The same in rows that all hold the mark before.
-fn listed(
+// The calls that change nothing.
+fn asked(h: Head, keys: &[u32], values: &[u32], bytes: &[u8], word: u32, line: Line) -> Answer {
+    let b = line.b;
+    let n = (line.a % 4294967296) as u32;
+    let k = (b % 4294967296) as u32;
+    match word {
+        Line::READ => journal_calls::registers_journal_read(h, keys, values, bytes, n, k),
+        Line::LOOKUP => journal_calls::registers_journal_lookup(h, keys, values, bytes, n, b),
+        Line::LIST => listed(h, keys, values, bytes, line),
+        Line::SUM => sum(h, keys, values, bytes),
+        _ => say::alone(say::NO_CALL),
+    }
+}
+
+// The calls that change no base column.
+fn written(
     h: Head,
     keys: &[u32],
     values: &[u32],
-    bytes: &[u8],
-    t: u64,
-    rows: usize,
-    row: usize,
-) -> Answer {
-    let mut keys_listed = [say::MARK; say::ROWS];
-    let mut values_listed = [say::MARK; say::ROWS];
-    listed_in(
-        h,
-        keys,
-        values,
-        bytes,
-        t,
-        rows,
-        row,
-        &mut keys_listed,
-        &mut values_listed,
-    )
-}
-
-// The call of a line.
-pub(crate) fn turn(
-    h: Head,
-    keys: &mut [u32],
-    values: &mut [u32],
     bytes: &mut [u8],
+    word: u32,
     line: Line,
 ) -> JournalOutcome {
-    let word = line.word;
     let a = line.a;
     let b = line.b;
-    let c = line.c;
+    let n = (a % 4294967296) as u32;
+    let k = (b % 4294967296) as u32;
+    let v = (line.c % 4294967296) as u32;
     match word {
-        Line::BEGIN | Line::ASSIGN | Line::ADD | Line::ABORT | Line::COMMIT | Line::RECOVER =>
-            written(h, keys, values, bytes, word, a, b, c),
-        Line::CHECKPOINT => journal_calls::registers_journal_checkpoint(h, keys, values, bytes, a),
-        Line::STORE => numbered((c % 4294967296) as u32),
+        Line::BEGIN => journal_calls::registers_journal_begin(h, keys, values, bytes, a),
+        Line::ASSIGN => journal_calls::registers_journal_assign(h, keys, values, bytes, n, k, v),
+        Line::ADD => journal_calls::registers_journal_add(h, keys, values, bytes, n, k, v),
+        Line::ABORT => journal_calls::registers_journal_abort(h, keys, values, bytes, n),
+        Line::COMMIT => journal_calls::registers_journal_commit(h, keys, values, bytes, n, b),
+        Line::RECOVER => journal_calls::registers_journal_recover(
+            h,
+            keys,
+            values,
+            bytes,
+            a as usize,
+        ),
+        Line::STORE => numbered(n),
         Line::FILL => {
-            marks::fill(bytes, a as usize, b as usize, (c % 256) as u8);
+            sums::fill(bytes, a as usize, b as usize, (line.c % 256) as u8);
             JournalOutcome {
                 head: h,
                 answer: say::alone(0),
             }
         }
-        _ => asked(h, keys, values, bytes, line),
+        _ => JournalOutcome {
+            head: h,
+            answer: asked(h, keys, values, bytes, word, line),
+        },
     }
 }
 
-// A number for the head and all lent cells.
-pub(crate) fn mark(h: Head, keys: &[u32], values: &[u32], bytes: &[u8]) -> u64 {
-    let base = h.base;
-    let journal = h.journal;
-    let times = marks::mixed(h.low, h.floor as u64);
-    let counts = marks::mixed(marks::mixed(times, base.rows as u64), journal.used as u64);
-    marks::of_bytes(
-        marks::of_column(marks::of_column(counts, keys), values),
-        bytes,
-    )
+// A call, or what else a line asks.
+pub(crate) fn turn(
+    h: Head,
+    keys: &mut [u32],
+    values: &mut [u32],
+    bytes: &mut [u8],
+    word: u32,
+    line: Line,
+) -> JournalOutcome {
+    if word == Line::CHECKPOINT {
+        return journal_calls::registers_journal_checkpoint(h, keys, values, bytes, line.a);
+    }
+    written(h, keys, values, bytes, word, line)
 }

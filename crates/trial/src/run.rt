@@ -1,6 +1,4 @@
 // The loop over the lines of the script.
-ghost use Prim.Native.Nat.{_≤_};
-ghost use lib.ListN.{length};
 use crate::line;
 use crate::line::Line;
 use crate::on_journal;
@@ -14,7 +12,7 @@ use std::num::wrapping_add_u64;
 use std::num::wrapping_add_usize;
 
 // Where the script stands: the next line; the block that is repeated, from its first line on, for each x up to the last; up to which x the lines
-// behind a `when` run, and whether they are passed over now; whether lines are for this store; how many bytes and rows are lent.
+// behind a `when` run, and whether they are passed over now; whether lines are for this store.
 struct Cursor {
     at: usize,
     first: usize,
@@ -23,8 +21,6 @@ struct Cursor {
     upto: u64,
     passed: bool,
     on: bool,
-    bytes: usize,
-    rows: usize,
 }
 
 impl Cursor {
@@ -36,25 +32,32 @@ impl Cursor {
             last: 0,
             upto: 0,
             passed: false,
-            on: true,
-            bytes: 0,
-            rows: 0,
+            on: false,
         }
     }
 
-    // Whether a line is a call, or the like, for this store.
-    fn runs(self, line: Line) -> bool {
+    // The word of a line that is to be run on this store, 0 for any other line.
+    fn word(self, line: Line) -> u32 {
         let word = line.word;
+        if self.passed {
+            return 0;
+        }
+        if !self.on {
+            return 0;
+        }
         match word {
-            0 | Line::EACH | Line::WHEN | Line::AGAIN | Line::JOURNAL | Line::MAP | Line::BOTH =>
-                false,
-            _ => self.on && !self.passed,
+            Line::EACH | Line::AGAIN | Line::WHEN => 0,
+            Line::BOTH | Line::JOURNAL | Line::MAP | Line::SINGLE | Line::NARROW | Line::LONG => 0,
+            _ => word,
         }
     }
 
-    // After a line: behind it, or at the block's first line again.
-    fn after(mut self, journal: bool, line: Line) -> Self {
+    // After a line: behind it, or at the block's first line again; still at it while the cells are to be summed up.
+    fn after(mut self, store: u32, line: Line, summing: bool) -> Self {
         let word = line.word;
+        if summing {
+            return self;
+        }
         self.at = wrapping_add_usize(line.end, 1);
         match word {
             Line::EACH => {
@@ -75,12 +78,9 @@ impl Cursor {
                     self.at = self.first;
                 }
             }
-            Line::JOURNAL => self.on = journal,
-            Line::MAP => self.on = !journal,
-            Line::BOTH => self.on = true,
-            Line::STORE => {
-                self.bytes = (line.a % 4096) as usize * Record::BYTES;
-                self.rows = line.b as usize;
+            Line::BOTH => self.on = store == Line::JOURNAL || store == Line::MAP,
+            Line::JOURNAL | Line::MAP | Line::SINGLE | Line::NARROW | Line::LONG => {
+                self.on = store == word;
             }
             _ => {}
         }
@@ -88,15 +88,111 @@ impl Cursor {
     }
 }
 
-// Both heads after a line, the answer, and the mark of the store that it was for.
+// How many answers were as wanted, and how many not; whether the last call was refused; the sum of all cells, and whether it is taken next.
+struct Tally {
+    right: u64,
+    wrong: u64,
+    refused: bool,
+    summing: bool,
+    sum: u64,
+}
+
+impl Tally {
+    fn new() -> Self {
+        Tally {
+            right: 0,
+            wrong: 0,
+            refused: false,
+            summing: false,
+            sum: 0,
+        }
+    }
+
+    // What is asked next: the line, or the sum after it.
+    fn word(self, word: u32) -> u32 {
+        if self.summing {
+            return Line::SUM;
+        }
+        word
+    }
+
+    // One answer more that is not as it must be.
+    fn failed(mut self) -> Self {
+        self.wrong = wrapping_add_u64(self.wrong, 1);
+        self
+    }
+
+    // A line was answered; one that has a name is written where it is shown.
+    fn answered(
+        mut self,
+        script: &[u8],
+        store: u32,
+        at: usize,
+        line: Line,
+        shown: bool,
+        answer: Answer,
+    ) -> Self {
+        self.refused = answer.number != 0;
+        if say::wanted(line, answer) {
+            if shown && line.named {
+                say::line(store, script, at, line.end, b" ok\n");
+            }
+            self.right = wrapping_add_u64(self.right, 1);
+            return self;
+        }
+        say::line(store, script, at, line.end, b" DIFFERS, came");
+        say::numbers(answer.number as u64, answer.value);
+        self.failed()
+    }
+
+    // All cells were summed up after a line: a refused call leaves them as they were.
+    fn summed(mut self, script: &[u8], store: u32, at: usize, line: Line, sum: u64) -> Self {
+        let before = self.sum;
+        self.sum = sum;
+        if self.refused && sum != before {
+            say::line(store, script, at, line.end, b" CHANGED CELLS\n");
+            return self.failed();
+        }
+        self
+    }
+}
+
+// What came is compared: for a line, and then for the sum after it.
+fn judged(
+    mut tally: Tally,
+    script: &[u8],
+    store: u32,
+    cursor: Cursor,
+    line: Line,
+    word: u32,
+    answer: Answer,
+) -> Tally {
+    if tally.summing {
+        tally.summing = false;
+        return tally.summed(script, store, cursor.at, line, answer.value);
+    }
+    if word == 0 {
+        return tally;
+    }
+    tally.summing = true;
+    tally.answered(
+        script,
+        store,
+        cursor.at,
+        line,
+        cursor.x >= cursor.upto,
+        answer,
+    )
+}
+
+// Both heads and an answer.
 struct Stepped {
     head: Head,
     map: MapHead,
     answer: Answer,
-    mark: u64,
 }
 
-// A line on one of the stores.
+// What a word and its line ask of a store.
 fn step(
     journal: bool,
     head: Head,
@@ -105,205 +201,54 @@ fn step(
     times: &mut [u64],
     values: &mut [u32],
     bytes: &mut [u8],
+    word: u32,
     line: Line,
 ) -> Stepped {
     if journal {
-        let o = on_journal::turn(head, keys, values, bytes, line);
+        let o = on_journal::turn(head, keys, values, bytes, word, line);
         let head = o.head;
         let answer = o.answer;
-        let mark = on_journal::mark(head, keys, values, bytes);
-        return Stepped {
-            head,
-            map,
-            answer,
-            mark,
-        };
+        return Stepped { head, map, answer };
     }
-    let o = on_map::turn(map, keys, times, values, line);
+    let o = on_map::turn(map, keys, times, values, word, line);
     let map = o.head;
     let answer = o.answer;
-    let mark = on_map::mark(map, keys, times, values);
-    Stepped {
-        head,
-        map,
-        answer,
-        mark,
-    }
+    Stepped { head, map, answer }
 }
 
-// Whether a line was answered as it wants; a refused call leaves the mark. The line is written where it differs, and where it has a name.
-fn told(
-    journal: bool,
-    script: &[u8],
-    at: usize,
-    line: Line,
-    last: bool,
-    answer: Answer,
-    kept: bool,
-) -> bool {
-    let end = line.end;
-    if end < at {
-        return false;
-    }
-    if end > script.len() {
-        return false;
-    }
-    let text = &script[at..end];
-    if !say::wanted(line, answer) {
-        say::differs(journal, text, answer, kept);
-        return false;
-    }
-    if !kept {
-        say::differs(journal, text, answer, kept);
-        return false;
-    }
-    if last {
-        if line.named {
-            say::agrees(journal, text);
-        }
-    }
-    true
-}
-
-// The same where a part of the cells is lent. Where there are not so many, nothing is done.
-fn lend(
-    journal: bool,
-    head: Head,
-    map: MapHead,
-    keys: &mut [u32],
-    times: &mut [u64],
-    values: &mut [u32],
-    bytes: &mut [u8],
-    rows: usize,
-    count: usize,
-    line: Line,
-) -> Stepped {
-    if rows <= keys.len() && rows <= times.len() && rows <= values.len() && count <= bytes.len() {
-        return step(
-            journal,
-            head,
-            map,
-            &mut keys[0..rows],
-            &mut times[0..rows],
-            &mut values[0..rows],
-            &mut bytes[0..count],
-            line,
-        );
-    }
-    Stepped {
-        head,
-        map,
-        answer: say::alone(say::NO_CALL),
-        mark: 0,
-    }
-}
-
-// A trial of one of the stores, between two lines of the script: both heads, of which one is used; the mark of its cells; how many answers were as
-// wanted, and how many not.
-struct Trial {
-    cursor: Cursor,
-    head: Head,
-    map: MapHead,
-    mark: u64,
-    right: u64,
-    wrong: u64,
-}
-
-impl Trial {
-    // The line before the cursor was answered: its answer is compared and counted.
-    fn judged(
-        mut self,
-        script: &[u8],
-        journal: bool,
-        before: Cursor,
-        line: Line,
-        o: Stepped,
-    ) -> Self {
-        let head = o.head;
-        let map = o.map;
-        let answer = o.answer;
-        let kept = say::kept(answer, o.mark == self.mark);
-        self.head = head;
-        self.map = map;
-        self.mark = o.mark;
-        if told(
-            journal,
-            script,
-            before.at,
-            line,
-            before.x >= before.upto,
-            answer,
-            kept,
-        ) {
-            self.right = wrapping_add_u64(self.right, 1);
-            return self;
-        }
-        self.wrong = wrapping_add_u64(self.wrong, 1);
-        self
-    }
-}
-
-// The trial after one more line.
-fn after(
-    mut trial: Trial,
-    script: &[u8],
-    journal: bool,
-    keys: &mut [u32],
-    times: &mut [u64],
-    values: &mut [u32],
-    bytes: &mut [u8],
-) -> Trial {
-    let before = trial.cursor;
-    let head = trial.head;
-    let map = trial.map;
-    let line = line::read(script, before.at, before.x);
-    let cursor = before.after(journal, line);
-    trial.cursor = cursor;
-    if !cursor.runs(line) {
-        return trial;
-    }
-    let o = lend(
-        journal,
-        head,
-        map,
-        keys,
-        times,
-        values,
-        bytes,
-        cursor.rows,
-        cursor.bytes,
-        line,
-    );
-    trial.judged(script, journal, before, line, o)
-}
-
-// More lines than a script makes a store go through.
-const LINES: u32 = 1000000;
+// More turns than a script makes.
+const TURNS: u32 = 1000000;
 
 // The script on one of the stores.
 pub(crate) fn run(
     script: &[u8],
-    journal: bool,
+    store: u32,
     keys: &mut [u32],
     times: &mut [u64],
     values: &mut [u32],
     bytes: &mut [u8],
 ) {
-    let mut trial = Trial {
-        cursor: Cursor::new(),
-        head: Head::empty(),
-        map: MapHead::empty(),
-        mark: 0,
-        right: 0,
-        wrong: 0,
-    };
-    let mut lines = LINES;
-    while lines > 0 {
-        if trial.cursor.at >= script.len() {
+    let journal = store != Line::MAP;
+    let mut cursor = Cursor::new();
+    let mut tally = Tally::new();
+    let mut head = Head::empty();
+    let mut map = MapHead::empty();
+    let mut turns = TURNS;
+    while turns > 0 {
+        let at = cursor.at;
+        if at >= script.len() {
             break;
         }
-        trial = after(trial, script, journal, keys, times, values, bytes);
-        lines -= 1;
+        let line = line::read(script, at, cursor.x);
+        let word = tally.word(cursor.word(line));
+        let o = step(journal, head, map, keys, times, values, bytes, word, line);
+        head = o.head;
+        map = o.map;
+        let answer = o.answer;
+        tally = judged(tally, script, store, cursor, line, word, answer);
+        cursor = cursor.after(store, line, tally.summing);
+        turns -= 1;
     }
-    say::total(journal, trial.right, trial.wrong);
+    say::text(store, b"answers as wanted, and others:");
+    say::numbers(tally.right, tally.wrong);
 }

@@ -1,6 +1,6 @@
-// Answers made here, and the lines that the program writes.
+// Answers made here, and what the program writes.
 use crate::line::Line;
-use crate::marks;
+use crate::sums;
 use host::Answer;
 use libc::STDOUT_FILENO;
 
@@ -21,22 +21,33 @@ pub(crate) fn alone(number: u32) -> Answer {
     }
 }
 
+// Accepted, with a value.
+pub(crate) fn beside(value: u64) -> Answer {
+    Answer {
+        number: 0,
+        present: 1,
+        value,
+    }
+}
+
 // A row of a list, counted from 1, as a number and a value; for row 0 the list's own answer.
-pub(crate) fn row(answer: Answer, listed: &[u32], contents: &[u32], row: usize) -> Answer {
+pub(crate) fn row(
+    answer: Answer,
+    listed: &[u32; ROWS],
+    contents: &[u32; ROWS],
+    row: usize,
+) -> Answer {
     if row == 0 {
         return answer;
     }
     let i = row - 1;
-    if i >= listed.len() {
-        return alone(NO_CALL);
-    }
-    if i >= contents.len() {
+    if i >= ROWS {
         return alone(NO_CALL);
     }
     Answer {
         number: listed[i],
         present: 1,
-        value: marks::wide(contents[i]),
+        value: sums::wide(contents[i]),
     }
 }
 
@@ -51,50 +62,33 @@ pub(crate) fn wanted(line: Line, answer: Answer) -> bool {
     line.valued() == (answer.present == 1)
 }
 
-// Whether a call may leave the cells as it did: a refused one only where they are the same.
-pub(crate) fn kept(answer: Answer, same: bool) -> bool {
-    if answer.number == 0 {
-        return true;
-    }
-    same
-}
-
-// The store's name and the text of the line.
-pub(crate) fn begun(journal: bool, text: &[u8]) {
-    if journal {
-        io::write_all(STDOUT_FILENO, b"journal: ");
-    } else {
+// A text of a store.
+pub(crate) fn text(store: u32, text: &[u8]) {
+    if store == Line::MAP {
         io::write_all(STDOUT_FILENO, b"map: ");
+    } else {
+        io::write_all(STDOUT_FILENO, b"journal: ");
     }
     io::write_all(STDOUT_FILENO, text);
 }
 
-// A line that is not answered as it wants, with what came, and whether a refused call changed a cell.
-pub(crate) fn differs(journal: bool, text: &[u8], answer: Answer, kept: bool) {
-    begun(journal, text);
-    io::write_all(STDOUT_FILENO, b" DIFFERS, came ");
-    io::print_decimal(STDOUT_FILENO, answer.number as u64);
-    if answer.present == 1 {
-        io::write_all(STDOUT_FILENO, b" ");
-        io::print_decimal(STDOUT_FILENO, answer.value);
+// The text of a line of the script, and what became of it.
+pub(crate) fn line(store: u32, script: &[u8], from: usize, to: usize, note: &[u8]) {
+    if from > to {
+        return;
     }
-    if !kept {
-        io::write_all(STDOUT_FILENO, b", and cells changed");
+    if to > script.len() {
+        return;
     }
-    io::write_all(STDOUT_FILENO, b"\n");
+    text(store, &script[from..to]);
+    io::write_all(STDOUT_FILENO, note);
 }
 
-// A line that is answered as it wants.
-pub(crate) fn agrees(journal: bool, text: &[u8]) {
-    begun(journal, text);
-    io::write_all(STDOUT_FILENO, b" ok\n");
-}
-
-// How many answers were as wanted, and how many not.
-pub(crate) fn total(journal: bool, right: u64, wrong: u64) {
-    begun(journal, b"answers as wanted ");
-    io::print_decimal(STDOUT_FILENO, right);
-    io::write_all(STDOUT_FILENO, b", others ");
-    io::print_decimal(STDOUT_FILENO, wrong);
+// Two numbers and the end of a line.
+pub(crate) fn numbers(a: u64, b: u64) {
+    io::write_all(STDOUT_FILENO, b" ");
+    io::print_decimal(STDOUT_FILENO, a);
+    io::write_all(STDOUT_FILENO, b" ");
+    io::print_decimal(STDOUT_FILENO, b);
     io::write_all(STDOUT_FILENO, b"\n");
 }

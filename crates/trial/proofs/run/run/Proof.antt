@@ -1,19 +1,23 @@
--- `trial::run::run` is safe and ends: each turn leaves one line less. What is lent keeps its length.
-use mathlib.Core.Path.{_≡_}
+-- `trial::run::run` is safe and ends: each turn leaves one turn less. What is lent keeps its length.
+use mathlib.Core.Path.{_≡_, _∙_}
 use borrow.Author.Needs.{needs}
 use lib.ListN.{length}
+use native.Mathlib.Omega.{arith}
 use Rattle.trial.proofs.run.run.Statement.{statement}
 use Rattle.trial.proofs.run.run.Tie as tie
 
 abbrev Inv-loop : tie.InvT-loop
-Inv-loop script journal keys₀ times₀ values₀ bytes₀ trial₀ lines₀ keys times values bytes trial lines =
+Inv-loop script store keys₀ times₀ values₀ bytes₀ journal cursor₀ tally₀ head₀ map₀ turns₀ t18 keys times values bytes cursor tally head map turns =
     (length keys ≡ length keys₀) × (length times ≡ length times₀) × (length values ≡ length values₀) × (length bytes ≡ length bytes₀)
 
 abbrev μ-loop : tie.MeasureT-loop
-μ-loop script journal keys₀ times₀ values₀ bytes₀ trial₀ lines₀ keys times values bytes trial lines = lines
+μ-loop script store keys₀ times₀ values₀ bytes₀ journal cursor₀ tally₀ head₀ map₀ turns₀ t18 keys times values bytes cursor tally head map turns = turns
 
 new-requires : tie.Need-new-requires Inv-loop μ-loop
 new-requires c κs = search needs
+
+new-requires-2 : tie.Need-new-requires-2 Inv-loop μ-loop
+new-requires-2 c κs = search needs
 
 empty-requires : tie.Need-empty-requires Inv-loop μ-loop
 empty-requires c κs = search needs
@@ -24,20 +28,47 @@ empty-requires-2 c κs = search needs
 loop-holds : tie.Need-loop-holds Inv-loop μ-loop
 loop-holds c = search needs
 
+read-requires : tie.Need-read-requires Inv-loop μ-loop
+read-requires c κs = search needs
+
+word-requires : tie.Need-word-requires Inv-loop μ-loop
+word-requires c κs = search needs
+
+word-requires-2 : tie.Need-word-requires-2 Inv-loop μ-loop
+word-requires-2 c κs = search needs
+
+step-requires : tie.Need-step-requires Inv-loop μ-loop
+step-requires c κs = search needs
+
+judged-requires : tie.Need-judged-requires Inv-loop μ-loop
+judged-requires c κs = search needs
+
 after-requires : tie.Need-after-requires Inv-loop μ-loop
 after-requires c κs = search needs
 
-sub-lines : tie.Need-sub-lines Inv-loop μ-loop
-sub-lines c = search needs
+sub-turns : tie.Need-sub-turns Inv-loop μ-loop
+sub-turns c = omega (arith, c .before .before .before .before .before .before .before .before .before .before .before .before .before .before .before .before .before .before .before .before .before .before .loop-test .taken)
 
 loop-less : tie.Need-loop-less Inv-loop μ-loop
-loop-less c = search needs
+loop-less c = omega (arith, c .before .before .before .before .before .before .before .before .before .before .before .before .before .before .before .before .before .before .before .before .before .before .loop-test .taken)
 
 loop-again : tie.Need-loop-again Inv-loop μ-loop
-loop-again c = search needs
+loop-again c =
+    let inv = c .before .before .before .before .before .before .before .before .before .before .before .before .before .before .before .before .before .before .before .before .before .before .before .loop .inv in (
+      c .before .before .before .before .before .before .before .before .before .before .before .before .keys .given ∙ inv .0,
+      c .before .before .before .before .before .before .before .before .before .before .times .given ∙ inv .1,
+      c .before .before .before .before .before .before .before .before .values .given ∙ inv .2,
+      c .before .before .before .before .before .before .bytes .given ∙ inv .3,
+    )
 
-total-requires : tie.Need-total-requires Inv-loop μ-loop
-total-requires c κs = search needs
+slice-aggregate-text : tie.Need-slice-aggregate-text Inv-loop μ-loop
+slice-aggregate-text c = search needs
+
+text-requires : tie.Need-text-requires Inv-loop μ-loop
+text-requires c κs = search needs
+
+numbers-requires : tie.Need-numbers-requires Inv-loop μ-loop
+numbers-requires c κs = search needs
 
 same-length : tie.Need-same-length Inv-loop μ-loop
 same-length c = search needs
@@ -61,14 +92,22 @@ run-spec =
     Inv-loop
     μ-loop
     new-requires
+    new-requires-2
     empty-requires
     empty-requires-2
     loop-holds
+    read-requires
+    word-requires
+    word-requires-2
+    step-requires
+    judged-requires
     after-requires
-    sub-lines
+    sub-turns
     loop-less
     loop-again
-    total-requires
+    slice-aggregate-text
+    text-requires
+    numbers-requires
     same-length
     same-length-2
     same-length-3

@@ -1,8 +1,8 @@
--- `trial::on_map::slots_mark` is safe and ends: each turn leaves one slot less.
+-- `trial::on_map::slots_sum` is safe and ends: each turn leaves one slot less.
 use Prim.Native.Nat.{_-_}
 use borrow.Author.Needs.{needs}
-use Rattle.trial.proofs.on_map.slots_mark.Statement.{statement}
-use Rattle.trial.proofs.on_map.slots_mark.Tie as tie
+use Rattle.trial.proofs.on_map.slots_sum.Statement.{statement}
+use Rattle.trial.proofs.on_map.slots_sum.Tie as tie
 
 abbrev Inv-loop : tie.InvT-loop
 Inv-loop sum slots s₀ i₀ s i = Unit {0}
@@ -10,11 +10,11 @@ Inv-loop sum slots s₀ i₀ s i = Unit {0}
 abbrev μ-loop : tie.MeasureT-loop
 μ-loop sum slots s₀ i₀ s i = 8 - i
 
-cast-mixed : tie.Need-cast-mixed Inv-loop μ-loop
-cast-mixed c = search needs
+cast-more : tie.Need-cast-more Inv-loop μ-loop
+cast-more c = search needs
 
-mixed-requires : tie.Need-mixed-requires Inv-loop μ-loop
-mixed-requires c κs = search needs
+more-requires : tie.Need-more-requires Inv-loop μ-loop
+more-requires c κs = search needs
 
 loop-holds : tie.Need-loop-holds Inv-loop μ-loop
 loop-holds c = search needs
@@ -22,8 +22,8 @@ loop-holds c = search needs
 at-requires : tie.Need-at-requires Inv-loop μ-loop
 at-requires c κs = search needs
 
-slot-mark-requires : tie.Need-slot-mark-requires Inv-loop μ-loop
-slot-mark-requires c κs = search needs
+slot-sum-requires : tie.Need-slot-sum-requires Inv-loop μ-loop
+slot-sum-requires c κs = search needs
 
 add-i : tie.Need-add-i Inv-loop μ-loop
 add-i c = search needs
@@ -37,17 +37,17 @@ loop-again c = search needs
 returns : tie.Need-returns Inv-loop μ-loop
 returns c = search needs
 
-pub slots-mark-spec : {M : Type 1} → statement M
-slots-mark-spec =
+pub slots-sum-spec : {M : Type 1} → statement M
+slots-sum-spec =
     tie.close
     (tie.spec
     Inv-loop
     μ-loop
-    cast-mixed
-    mixed-requires
+    cast-more
+    more-requires
     loop-holds
     at-requires
-    slot-mark-requires
+    slot-sum-requires
     add-i
     loop-less
     loop-again

@@ -1,9 +1,9 @@
--- `trial::marks::of_times` is safe and ends: each turn leaves one cell less.
+-- `trial::sums::of_bytes` is safe and ends: each turn leaves one cell less.
 use Prim.Native.Nat.{_-_}
 use borrow.Author.Needs.{needs}
 use lib.ListN.{length}
-use Rattle.trial.proofs.marks.of_times.Statement.{statement}
-use Rattle.trial.proofs.marks.of_times.Tie as tie
+use Rattle.trial.proofs.sums.of_bytes.Statement.{statement}
+use Rattle.trial.proofs.sums.of_bytes.Tie as tie
 
 abbrev Inv-loop : tie.InvT-loop
 Inv-loop sum column s₀ i₀ s i = Unit {0}
@@ -14,14 +14,14 @@ abbrev μ-loop : tie.MeasureT-loop
 loop-holds : tie.Need-loop-holds Inv-loop μ-loop
 loop-holds c = search needs
 
-mul-mixed : tie.Need-mul-mixed Inv-loop μ-loop
-mul-mixed c = search needs
+shared-slice-read-wide8 : tie.Need-shared-slice-read-wide8 Inv-loop μ-loop
+shared-slice-read-wide8 c = search needs
 
-shared-slice-read-mixed : tie.Need-shared-slice-read-mixed Inv-loop μ-loop
-shared-slice-read-mixed c = search needs
+wide8-requires : tie.Need-wide8-requires Inv-loop μ-loop
+wide8-requires c κs = search needs
 
-mixed-requires : tie.Need-mixed-requires Inv-loop μ-loop
-mixed-requires c κs = search needs
+more-requires : tie.Need-more-requires Inv-loop μ-loop
+more-requires c κs = search needs
 
 add-i : tie.Need-add-i Inv-loop μ-loop
 add-i c = search needs
@@ -35,16 +35,16 @@ loop-again c = search needs
 returns : tie.Need-returns Inv-loop μ-loop
 returns c = search needs
 
-pub of-times-spec : {M : Type 1} → statement M
-of-times-spec =
+pub of-bytes-spec : {M : Type 1} → statement M
+of-bytes-spec =
     tie.close
     (tie.spec
     Inv-loop
     μ-loop
     loop-holds
-    mul-mixed
-    shared-slice-read-mixed
-    mixed-requires
+    shared-slice-read-wide8
+    wide8-requires
+    more-requires
     add-i
     loop-less
     loop-again

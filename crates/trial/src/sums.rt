@@ -1,8 +1,8 @@
-// A number for all cells of a store, by which a change of any one of them is seen.
+// A sum of cells, by which a change is seen.
 use std::num::wrapping_add_u64;
 
-// One number more: bits turn round and none is lost, so that two sums which differ in one number differ.
-pub(crate) fn mixed(sum: u64, x: u64) -> u64 {
+// A sum with one number more. Its bits turn round and none is lost, so that sums which differ in one number differ.
+pub(crate) fn more(sum: u64, x: u64) -> u64 {
     wrapping_add_u64(sum << 7 | sum >> 57, x)
 }
 
@@ -22,7 +22,7 @@ pub(crate) fn of_bytes(sum: u64, column: &[u8]) -> u64 {
     let mut s = sum;
     let mut i = 0;
     while i < column.len() {
-        s = mixed(s, wide8(column[i]));
+        s = more(s, wide8(column[i]));
         i += 1;
     }
     s
@@ -32,7 +32,7 @@ pub(crate) fn of_column(sum: u64, column: &[u32]) -> u64 {
     let mut s = sum;
     let mut i = 0;
     while i < column.len() {
-        s = mixed(s, wide(column[i]));
+        s = more(s, wide(column[i]));
         i += 1;
     }
     s
@@ -42,7 +42,7 @@ pub(crate) fn of_times(sum: u64, column: &[u64]) -> u64 {
     let mut s = sum;
     let mut i = 0;
     while i < column.len() {
-        s = mixed(s, column[i]);
+        s = more(s, column[i]);
         i += 1;
     }
     s

@@ -1,9 +1,9 @@
--- `trial::marks::of_column` is safe and ends: each turn leaves one cell less.
+-- `trial::sums::of_times` is safe and ends: each turn leaves one cell less.
 use Prim.Native.Nat.{_-_}
 use borrow.Author.Needs.{needs}
 use lib.ListN.{length}
-use Rattle.trial.proofs.marks.of_column.Statement.{statement}
-use Rattle.trial.proofs.marks.of_column.Tie as tie
+use Rattle.trial.proofs.sums.of_times.Statement.{statement}
+use Rattle.trial.proofs.sums.of_times.Tie as tie
 
 abbrev Inv-loop : tie.InvT-loop
 Inv-loop sum column s₀ i₀ s i = Unit {0}
@@ -14,17 +14,14 @@ abbrev μ-loop : tie.MeasureT-loop
 loop-holds : tie.Need-loop-holds Inv-loop μ-loop
 loop-holds c = search needs
 
-mul-wide : tie.Need-mul-wide Inv-loop μ-loop
-mul-wide c = search needs
+mul-more : tie.Need-mul-more Inv-loop μ-loop
+mul-more c = search needs
 
-shared-slice-read-wide : tie.Need-shared-slice-read-wide Inv-loop μ-loop
-shared-slice-read-wide c = search needs
+shared-slice-read-more : tie.Need-shared-slice-read-more Inv-loop μ-loop
+shared-slice-read-more c = search needs
 
-wide-requires : tie.Need-wide-requires Inv-loop μ-loop
-wide-requires c κs = search needs
-
-mixed-requires : tie.Need-mixed-requires Inv-loop μ-loop
-mixed-requires c κs = search needs
+more-requires : tie.Need-more-requires Inv-loop μ-loop
+more-requires c κs = search needs
 
 add-i : tie.Need-add-i Inv-loop μ-loop
 add-i c = search needs
@@ -38,17 +35,16 @@ loop-again c = search needs
 returns : tie.Need-returns Inv-loop μ-loop
 returns c = search needs
 
-pub of-column-spec : {M : Type 1} → statement M
-of-column-spec =
+pub of-times-spec : {M : Type 1} → statement M
+of-times-spec =
     tie.close
     (tie.spec
     Inv-loop
     μ-loop
     loop-holds
-    mul-wide
-    shared-slice-read-wide
-    wide-requires
-    mixed-requires
+    mul-more
+    shared-slice-read-more
+    more-requires
     add-i
     loop-less
     loop-again

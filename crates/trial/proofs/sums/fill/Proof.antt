@@ -1,10 +1,10 @@
--- `trial::marks::fill` is safe and ends: each turn leaves one byte less.
+-- `trial::sums::fill` is safe and ends: each turn leaves one byte less.
 use Prim.Native.Nat.{_-_}
 use mathlib.Core.Path.{_≡_}
 use lib.ListN.{length}
 use borrow.Author.Needs.{needs}
-use Rattle.trial.proofs.marks.fill.Statement.{statement}
-use Rattle.trial.proofs.marks.fill.Tie as tie
+use Rattle.trial.proofs.sums.fill.Statement.{statement}
+use Rattle.trial.proofs.sums.fill.Tie as tie
 
 abbrev Inv-loop : tie.InvT-loop
 Inv-loop bytes₀ from to value i₀ bytes i = length bytes ≡ length bytes₀
