@@ -21,7 +21,7 @@ use Rattle.rules.specs.Values.{Row, value, readIn}
 use Rattle.rules.specs.Lists.{among, rowKeys}
 use Rattle.rules.specs.Conflicts.{wroteAfter, touched, clashes, conflict}
 use Rattle.rules.specs.Bools.{split, and-left, and-right, and-both, or-none-left, or-none-right, not-both, implies-false, and-false}
-use Rattle.rules.specs.Running.{not-ended, running-skip, running-end, runs-skip, touched-skip, touched-open}
+use Rattle.rules.specs.Running.{not-ended, running-skip, running-end, runs-skip, touched-skip, touched-open, wrote-among}
 use Rattle.slot.specs.Places.{Place, free, taken, hasKey, runningValue, note, placeOf, openIn, amend, occupied}
 use Rattle.versions.specs.Versions.{at, later, thin}
 use Rattle.map_store.specs.Meaning.{MapStore, current, rowsAt, updatedPlace, stamp}
@@ -29,7 +29,7 @@ use Rattle.rules.specs.KeptLaws.{any-more}
 use Rattle.history.specs.Kept.{last-low}
 use Rattle.rules.specs.RoomLaws.{fewer}
 use Rattle.history.specs.MapVersions.{ordered, first-has, has-first, value-stamp, later-stamp, ordered-stamp, ordered-thin, later-thin, value-thin}
-use Rattle.history.specs.MapPlaces.{has-among, wrote-among, note-keys, note-first, firsts-written, isFree, once, open-other, open-same, open-count, open-length, open-once, amend-other, amend-once, amend-length, amend-taken, amend-free}
+use Rattle.history.specs.MapPlaces.{has-among, note-keys, note-first, firsts-written, isFree, once, open-other, open-same, open-count, open-length, open-once, amend-other, amend-once, amend-length, amend-taken, amend-free}
 use Rattle.versions.specs.Versions as versions
 
 -- what a place says of its transaction

@@ -19,6 +19,7 @@ use Rattle.rules.specs.Recovery.{mayWrite}
 use Rattle.rules.specs.Calls.{Store, nextOf, Begin, Update, Abort, Commit, refusal}
 use Rattle.rules.specs.Bools.{split, or-right, not-both}
 use Rattle.rules.specs.Columns.{length-keys}
+use Rattle.rules.specs.Running.{wrote-among}
 use Rattle.slot.specs.Places.{Place, taken, placeOf, holds}
 use Rattle.versions.specs.declared.Version.{Version}
 use Rattle.versions.specs.Versions.{at, later}
@@ -32,7 +33,7 @@ use Rattle.history.specs.Replayed.{replayed, whole}
 use Rattle.history.specs.Allowed.{refused, Allowed, may-begin, may-update, may-abort, may-commit, may-checkpoint, allowed}
 use Rattle.history.specs.Lawful.{Lawful, start, went, Sound, sound-last, sound}
 use Rattle.history.specs.Maps.{mapRefused, mapDid, mapped, mapAccepts}
-use Rattle.history.specs.MapPlaces.{has-among, wrote-among, holds-not, holds-none}
+use Rattle.history.specs.MapPlaces.{has-among, holds-not, holds-none}
 use Rattle.history.specs.MapAgrees.{Says, idle, busy, Agree, Sane, agree-begin, agree-abort, agree-commit, current-is, agree-update, agree-checkpoint}
 use Rattle.map_store.specs.Meaning as map
 

@@ -14,6 +14,7 @@ use Rattle.rules.specs.Transactions.{wrote, keysWritten}
 use Rattle.rules.specs.Values.{Row}
 use Rattle.rules.specs.Lists.{among, rowKeys}
 use Rattle.rules.specs.Bools.{split, and-left, and-right, or-none-left, or-none-right, not-both, or-false}
+use Rattle.rules.specs.Running.{wrote-among}
 use Rattle.slot.specs.Places.{Place, free, taken, hasKey, runningValue, reset, note, placeOf, openIn, amend, occupied, holds}
 use Rattle.map_store.specs.Meaning.{firsts}
 use Rattle.history.specs.MapVersions.{or-absent, first-has}
@@ -22,18 +23,6 @@ use Rattle.history.specs.MapVersions.{or-absent, first-has}
 pub has-among : (k : ℕ) (rows : List Row) → hasKey k rows ≡ among k (rowKeys rows)
 has-among k [] = refl
 has-among k (r ∷ rows) = rw (has-among k rows)
-
--- a key is among those written exactly if it was written
-pub wrote-among : (k : ℕ) (own : List Record) → among k (keysWritten own) ≡ wrote k own
-wrote-among k [] = refl
-wrote-among k (r ∷ own) =
-    let i = wrote-among k own in
-    split (isUpdate r)
-    (λ u.
-    split (wrote (r .key) own)
-    (λ w. rw (u, w) (split (eqb (r .key) k) (λ e. rw (e, i, ← eqb-true (r .key) k e, w)) (λ e. rw (e, i))))
-    (λ w. rw (u, w, i)))
-    (λ u. rw (u, i))
 
 -- a row that gets another value keeps its key
 reset-keys : (k v : ℕ) (rows : List Row) → rowKeys (reset k v rows) ≡ rowKeys rows

@@ -8,7 +8,7 @@ use borrow.Author.Tests.{eqb-true, eq-eqb, leb-true, leb-false, not-true}
 use Rattle.rules.specs.declared.Record.{Record}
 use Rattle.rules.specs.Bools.{split, and-right, and-false, or-none-left, or-none-right, not-both, iff}
 use Rattle.rules.specs.Kinds.{isBegin, isUpdate, isCommit, isEnd}
-use Rattle.rules.specs.Transactions.{any, of, stillOpen, wrote, runs, opens, runningIn, running}
+use Rattle.rules.specs.Transactions.{any, of, stillOpen, wrote, keysWritten, runs, opens, runningIn, running}
 use Rattle.rules.specs.Times.{above}
 use Rattle.rules.specs.Lists.{among}
 use Rattle.rules.specs.Conflicts.{touched}
@@ -91,3 +91,15 @@ among-in n whole (r ∷ rs) =
 
 pub running-runs : (n : ℕ) (rs : List Record) → among n (running rs) ≡ runs n rs
 running-runs n rs = among-in n rs rs
+
+-- a key is among those written exactly if it was written
+pub wrote-among : (k : ℕ) (own : List Record) → among k (keysWritten own) ≡ wrote k own
+wrote-among k [] = refl
+wrote-among k (r ∷ own) =
+    let i = wrote-among k own in
+    split (isUpdate r)
+    (λ u.
+    split (wrote (r .key) own)
+    (λ w. rw (u, w) (split (eqb (r .key) k) (λ e. rw (e, i, ← eqb-true (r .key) k e, w)) (λ e. rw (e, i))))
+    (λ w. rw (u, w, i)))
+    (λ u. rw (u, i))
