@@ -22,7 +22,7 @@ use Rattle.rules.specs.Calls.{Store, nextOf, Call, recordOf, answer, checkpoint
 use Rattle.record.specs.Bytes.{Bytes, newest, appended}
 use Rattle.record.specs.Laws.{newest-front, length-newest, drop-newest}
 use Rattle.answer.specs.Reply.{Reply, after}
-use Rattle.journal.specs.Compact.{compacted}
+use Rattle.compact.specs.Compact.{compacted}
 use Rattle.journal_store.specs.declared.Head.{Head}
 use Rattle.journal_store.specs.Shape.{grown, isShaped, Shaped, shape, roomOf, rowRoom, meaning}
 use Rattle.journal_store.specs.Write.{Wrote, number, room-left, need-some}

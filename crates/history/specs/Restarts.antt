@@ -23,8 +23,8 @@ use Rattle.rules.specs.Calls.{Store, withRoom}
 use Rattle.record.specs.Bytes.{Bytes, newest}
 use Rattle.record.specs.Laid.{laid, length-laid}
 use Rattle.answer.specs.Reply.{Reply, accepted, told, after}
-use Rattle.journal.specs.Compact.{compacted}
-use Rattle.journal.specs.WalkJudged.{whole-walk}
+use Rattle.compact.specs.Compact.{compacted}
+use Rattle.walk.specs.Judged.{whole-walk}
 use Rattle.journal_store.specs.declared.Head.{Head}
 use Rattle.journal_store.specs.Read.{lookupDecided, shapedReply}
 use Rattle.journal_store.specs.List.{ListedBy}

@@ -15,7 +15,7 @@ use Rattle.rules.specs.Calls.{Store, checkpointRefusal, answer, checkpointAnswe
 use Rattle.rules.specs.Bools.{split, not-both}
 use Rattle.rules.specs.Passed.{fitting}
 use Rattle.rules.specs.RoomLaws.{Roomy, room-for-each}
-use Rattle.journal.specs.CompactLaws.{length-kept, length-only}
+use Rattle.compact.specs.Laws.{length-kept, length-only}
 use Rattle.history.specs.History.{Checkpointed}
 use Rattle.history.specs.Sequences.{Event, lose, recovered, reached, Ever, never, called, checkpointed-at, restarted-with}
 use Rattle.rules.specs.KeptLaws.{numbersKept, kept-all}

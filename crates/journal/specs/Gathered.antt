@@ -1,24 +1,22 @@
--- Columns that a pass over the records fills: the distinct keys of a transaction, and the transactions that committed later than a time. What is said
--- of a column is which numbers stand in it, and not where. Assumes nothing.
+-- Columns that a pass over the records fills: the running transactions, those that committed later than a time, and the distinct keys that one wrote.
+-- A row more is the next behind those filled, so that a column has the oldest first, and behind them what stood there. Assumes nothing.
 use mathlib.Core.Path.{_≡_, refl, sym, ap, _∙_}
-use mathlib.Core.Bool.{Bool, true, false, cond, not, _&&_, _||_}
-use mathlib.Core.List.{List, [], _∷_, _++_}
+use mathlib.Core.Bool.{Bool, true, false, cond, not, _&&_}
+use mathlib.Core.List.{List, [], _∷_, _++_, reverse, reverse-cons}
 use Prim.Native.Nat.{ℕ, suc, _+_, _≤_, _<_}
 use native.Mathlib.Numerals.{add-one}
 use native.Mathlib.Omega.{arith}
 use lib.Dec.{eqb}
-use lib.ListN.{length, take, set}
-use lib.Seq.{take-suc-set}
-use borrow.Author.Tests.{eqb-true, not-true, not-false}
+use lib.ListN.{length, take, drop, getD, set, length-reverse}
+use lib.Seq.{drop-cons, set-at, append-snoc, take-append-seam}
 use Rattle.rules.specs.declared.Record.{Record}
-use Rattle.rules.specs.Bools.{split, and-left, and-right}
+use Rattle.rules.specs.Bools.{split}
 use Rattle.rules.specs.Kinds.{isUpdate}
-use Rattle.rules.specs.Transactions.{any, of, wrote, keysWritten}
+use Rattle.rules.specs.Transactions.{any, of, wrote, runs, running, keysWritten}
+use Rattle.rules.specs.Running.{running-runs, wrote-among}
 use Rattle.rules.specs.Lists.{among}
 use Rattle.rules.specs.Checkpoints.{late}
-use Rattle.column.specs.declared.Found.{Found}
-use Rattle.column.specs.declared.Found.the-variants.{At, Nothing}
-use Rattle.column.specs.Column.{firstFrom}
+use Rattle.column.specs.Among.{among-end}
 
 -- an update of transaction n, of a key that is not in a column yet
 abbrev pub newKey : ℕ → List ℕ → Record → Bool
@@ -28,85 +26,75 @@ newKey n keys r = eqb (r .transaction) n && (isUpdate r && not (among (r .key) k
 abbrev pub metIn : List ℕ → List ℕ → Record → Bool
 metIn keys numbers r = isUpdate r && (among (r .key) keys && among (r .transaction) numbers)
 
--- the first rows of a column hold the distinct keys that a transaction wrote, by its own records
-pub record KeysOf (own : List Record) (used count : ℕ) (keys : List ℕ) : Type 0 where
-  pub few : count ≤ used
-  pub many : count ≡ length (keysWritten own)
-  pub held : (k : ℕ) → among k (take count keys) ≡ wrote k own
+-- the transactions that committed later than s, once for each such commit, the newest first
+abbrev pub lates : ℕ → List Record → List ℕ
+lates s [] = []
+lates s (r ∷ rs) = cond (late s r) (r .transaction ∷ lates s rs) (lates s rs)
 
--- the first rows of a column hold the transactions that committed later than s
-pub record LateOf (rs : List Record) (s used count : ℕ) (numbers : List ℕ) : Type 0 where
-  pub few : count ≤ used
-  pub held : (m : ℕ) → among m (take count numbers) ≡ any (late s) (of m rs)
+-- a column with some numbers, the newest last, in place of its first rows; they are no more than the records passed
+pub record Gathered (xs : List ℕ) (passed count : ℕ) (entry exit : List ℕ) : Type 0 where
+  pub few : count ≤ passed
+  pub many : count ≡ length xs
+  pub cells : exit ≡ reverse xs ++ drop count entry
 
--- whether a search found something
-abbrev pub isFound : Found → Bool
-isFound (At i) = true
-isFound Nothing = false
+-- nothing is passed
+pub gathered-none : (column : List ℕ) → Gathered [] 0 0 column column
+gathered-none column = record { few = omega arith; many = refl; cells = refl }
 
--- a key stands in a column exactly if it is found there
-pub found-among : (i k : ℕ) (xs : List ℕ) → isFound (firstFrom i k xs) ≡ among k xs
-found-among i k [] = refl
-found-among i k (x ∷ xs) = split (eqb x k) (λ e. rw e) (λ e. rw e (found-among (i + 1) k xs))
+-- a record's turn: by a test it has one number more, or none
+module _ (xs : List ℕ) (i count : ℕ) (entry column : List ℕ) (h : Gathered xs i count entry column) (test told : Bool) (d : told ≡ test) (x : ℕ) where
+  pub gathered-more : (new : ℕ) (column' : List ℕ) → count < length entry → told ≡ true → new ≡ count + 1 → column' ≡ set column count x
+      → Gathered (cond test (x ∷ xs) xs) (i + 1) new entry column'
+  gathered-more new column' l t e f =
+      let p : length (reverse xs) ≡ count = length-reverse xs ∙ sym (h .many) in
+      let rest : drop count entry ≡ getD entry count 0 ∷ drop (suc count) entry = drop-cons entry count 0 l in
+      let c : set column count x ≡ reverse xs ++ x ∷ drop (suc count) entry =
+      ap (λ (ys : List ℕ). set ys count x) (h .cells ∙ ap (λ (ys : List ℕ). reverse xs ++ ys) rest)
+      ∙ set-at (reverse xs) (getD entry count 0) (drop (suc count) entry) x count p
+      in
+      rw (sym d ∙ t)
+      (record {
+        few = omega (arith, h .few);
+        many = e ∙ add-one count ∙ ap suc (h .many);
+        cells = f ∙ c ∙ rw (e, add-one, reverse-cons x xs) (sym (append-snoc (reverse xs) x (drop (suc count) entry)));
+      })
 
--- a column with one number more at its end
-pub among-end : (k y : ℕ) (xs : List ℕ) → among k (xs ++ (y ∷ [])) ≡ (eqb y k || among k xs)
-among-end k y [] = refl
-among-end k y (x ∷ xs) = rw (among-end k y xs) (split (eqb x k) (λ e. rw e (split (eqb y k) (λ f. rw f) (λ f. rw f))) (λ e. rw e))
+  pub gathered-same : (new : ℕ) (column' : List ℕ) → told ≡ false → new ≡ count → column' ≡ column
+      → Gathered (cond test (x ∷ xs) xs) (i + 1) new entry column'
+  gathered-same new column' t e f =
+      rw (sym d ∙ t) (record { few = omega (arith, h .few); many = e ∙ h .many; cells = rw e (f ∙ h .cells) })
 
-pub among-more : (k y n : ℕ) (xs : List ℕ) → n < length xs → among k (take (n + 1) (set xs n y)) ≡ (eqb y k || among k (take n xs))
-among-more k y n xs l = rw (add-one, take-suc-set xs n y l) (among-end k y (take n xs))
+among-reverse : (k : ℕ) (xs : List ℕ) → among k (reverse xs) ≡ among k xs
+among-reverse k [] = refl
+among-reverse k (x ∷ xs) = rw (reverse-cons x xs, among-end k x (reverse xs), among-reverse k xs)
+
+-- the rows filled hold those numbers
+gathered-among : (xs : List ℕ) (i count : ℕ) (entry column : List ℕ) → Gathered xs i count entry column → (k : ℕ)
+    → among k (take count column) ≡ among k xs
+gathered-among xs i count entry column h k =
+    let p : length (reverse xs) ≡ count = length-reverse xs ∙ sym (h .many) in
+    let t : take count column ≡ reverse xs = rw (h .cells, ← p) (take-append-seam (reverse xs) (drop (length (reverse xs)) entry)) in
+    rw t (among-reverse k xs)
+
+among-late : (m s : ℕ) (rs : List Record) → among m (lates s rs) ≡ any (late s) (of m rs)
+among-late m s [] = refl
+among-late m s (r ∷ rs) =
+    split (late s r)
+    (λ l. rw (l, among-late m s rs) (split (eqb (r .transaction) m) (λ e. rw (e, l)) (λ e. rw e)))
+    (λ l. rw (l, among-late m s rs) (split (eqb (r .transaction) m) (λ e. rw (e, l)) (λ e. rw e)))
+
+-- so a number stands in a column filled exactly if its transaction runs, or committed later, and a key if it was written
+module _ (rs : List Record) (i count : ℕ) (entry column : List ℕ) where
+  pub running-held : Gathered (running rs) i count entry column → (m : ℕ) → among m (take count column) ≡ runs m rs
+  running-held h m = gathered-among (running rs) i count entry column h m ∙ running-runs m rs
+
+  pub late-held : (s : ℕ) → Gathered (lates s rs) i count entry column → (m : ℕ) → among m (take count column) ≡ any (late s) (of m rs)
+  late-held s h m = gathered-among (lates s rs) i count entry column h m ∙ among-late m s rs
+
+  pub keys-held : Gathered (keysWritten rs) i count entry column → (k : ℕ) → among k (take count column) ≡ wrote k rs
+  keys-held h k = gathered-among (keysWritten rs) i count entry column h k ∙ wrote-among k rs
 
 -- a record's turn for the keys of a transaction
-module _ (n used i count : ℕ) (r : Record) (rs : List Record) (keys : List ℕ) (h : KeysOf (of n rs) i count keys) where
-  pub key-more : (new : ℕ) (keys' : List ℕ) → count < length keys → newKey n (take count keys) r ≡ true → new ≡ count + 1 → keys' ≡ set keys count (r .key)
-      → KeysOf (of n (r ∷ rs)) (i + 1) new keys'
-  key-more new keys' l b e f =
-      let own = and-left (eqb (r .transaction) n) (isUpdate r && not (among (r .key) (take count keys))) b in
-      let rest = and-right (eqb (r .transaction) n) (isUpdate r && not (among (r .key) (take count keys))) b in
-      let up = and-left (isUpdate r) (not (among (r .key) (take count keys))) rest in
-      let none : wrote (r .key) (of n rs) ≡ false =
-      sym (h .held (r .key)) ∙ not-true (among (r .key) (take count keys)) (and-right (isUpdate r) (not (among (r .key) (take count keys))) rest)
-      in
-      record {
-        few = omega (arith, h .few);
-        many = rw (own, up, none, e, h .many, add-one);
-        held = λ k. rw (own, up, e, f, among-more k (r .key) count keys l, h .held k);
-      }
-
-  pub key-same : (new : ℕ) (keys' : List ℕ) → newKey n (take count keys) r ≡ false → new ≡ count → keys' ≡ keys → KeysOf (of n (r ∷ rs)) (i + 1) new keys'
-  key-same new keys' b e f =
-      split (eqb (r .transaction) n)
-      (λ own.
-      split (isUpdate r)
-      (λ up.
-      let had : wrote (r .key) (of n rs) ≡ true =
-      sym (h .held (r .key)) ∙ not-false (among (r .key) (take count keys)) (rw (own, up) at b)
-      in
-      record {
-        few = omega (arith, h .few);
-        many = rw (own, up, had, e) (h .many);
-        held = λ k. rw (own, up, e, f, h .held k) (split (eqb (r .key) k) (λ q. rw q (ap (λ (x : ℕ). wrote x (of n rs)) (sym (eqb-true (r .key) k q)) ∙ had)) (λ q. rw q));
-      })
-      (λ up. record { few = omega (arith, h .few); many = rw (own, up, e) (h .many); held = λ k. rw (own, up, e, f) (h .held k) }))
-      (λ own. record { few = omega (arith, h .few); many = rw (own, e) (h .many); held = λ k. rw (own, e, f) (h .held k) })
-
--- a record's turn for the transactions that committed later than s
-module _ (s i count : ℕ) (r : Record) (rs : List Record) (numbers : List ℕ) (h : LateOf rs s i count numbers) where
-  pub late-more : (new : ℕ) (numbers' : List ℕ) → count < length numbers → late s r ≡ true → new ≡ count + 1 → numbers' ≡ set numbers count (r .transaction)
-      → LateOf (r ∷ rs) s (i + 1) new numbers'
-  late-more new numbers' l b e f =
-      record {
-        few = omega (arith, h .few);
-        held =
-            λ m.
-            rw (e, f, among-more m (r .transaction) count numbers l, h .held m)
-            (split (eqb (r .transaction) m) (λ q. rw (q, b)) (λ q. rw q));
-      }
-
-  pub late-same : (new : ℕ) (numbers' : List ℕ) → late s r ≡ false → new ≡ count → numbers' ≡ numbers → LateOf (r ∷ rs) s (i + 1) new numbers'
-  late-same new numbers' b e f =
-      record {
-        few = omega (arith, h .few);
-        held = λ m. rw (e, f, h .held m) (split (eqb (r .transaction) m) (λ q. rw (q, b)) (λ q. rw q));
-      }
+pub keys-more : (n : ℕ) (keys : List ℕ) (r : Record) (rs : List Record) → among (r .key) keys ≡ wrote (r .key) (of n rs)
+    → keysWritten (of n (r ∷ rs)) ≡ cond (newKey n keys r) (r .key ∷ keysWritten (of n rs)) (keysWritten (of n rs))
+keys-more n keys r rs h = rw h (split (eqb (r .transaction) n) (λ e. rw e) (λ e. rw e))

@@ -5,13 +5,4 @@ pub mod Some
 pub mod Meets
 pub mod Past
 pub mod Gathered
-pub mod WalkJudged
-pub mod CompactColumns
-pub mod Marks
-pub mod Compact
-pub mod CompactLaws
-pub mod UniqueCompact
-pub mod Walk
-pub mod WalkLaws
-pub mod UniqueWalk
 pub mod Unique

@@ -1,6 +1,6 @@
 -- Rule 3.6 from the side of the other writers: a transaction conflicts exactly if some update record has a key that it wrote and belongs to a
 -- transaction that committed later than its snapshot. This is the form that two passes compute. Assumes nothing.
-use mathlib.Core.Path.{_≡_, refl, sym, ap, _∙_}
+use mathlib.Core.Path.{_≡_, sym}
 use mathlib.Core.Bool.{Bool, true, _&&_}
 use mathlib.Core.List.{List}
 use Prim.Native.Nat.{ℕ}
@@ -19,6 +19,9 @@ use Rattle.journal.specs.Some.{Some, any-some, some-any, in-of, of-in}
 abbrev pub meets : List Record → List Record → ℕ → Record → Bool
 meets whole own s w = isUpdate w && (wrote (w .key) own && any (late s) (of (w .transaction) whole))
 
+turned : (a b : ℕ) → eqb a b ≡ true → eqb b a ≡ true
+turned a b e = eq-eqb b a (sym (eqb-true a b e))
+
 module _ (n s : ℕ) (rs : List Record) where
   there : any (clashes rs s) (of n rs) ≡ true → any (meets rs (of n rs) s) rs ≡ true
   there h =
@@ -33,10 +36,10 @@ module _ (n s : ℕ) (rs : List Record) where
       let w = d .at in
       let o = of-in (c .transaction) w rs (d .here) in
       let wu = and-left (isUpdate w) (eqb (w .key) (r .key)) (d .passes) in
-      let wk : w .key ≡ r .key = eqb-true (w .key) (r .key) (and-right (isUpdate w) (eqb (w .key) (r .key)) (d .passes)) in
-      let same : eqb (c .transaction) (w .transaction) ≡ true = eq-eqb _ _ (sym (eqb-true (w .transaction) (c .transaction) (o .1))) in
+      let wk = turned (w .key) (r .key) (and-right (isUpdate w) (eqb (w .key) (r .key)) (d .passes)) in
+      let same : eqb (c .transaction) (w .transaction) ≡ true = turned (w .transaction) (c .transaction) (o .1) in
       let mine : wrote (w .key) (of n rs) ≡ true =
-      some-any (writes (w .key)) r (of n rs) (a .here) (and-both (isUpdate r) (eqb (r .key) (w .key)) u (eq-eqb _ _ (sym wk)))
+      some-any (writes (w .key)) r (of n rs) (a .here) (and-both (isUpdate r) (eqb (r .key) (w .key)) u wk)
       in
       let lates : any (late s) (of (w .transaction) rs) ≡ true =
       some-any (late s) c (of (w .transaction) rs) (in-of (w .transaction) c rs (b .here) same)
@@ -55,14 +58,14 @@ module _ (n s : ℕ) (rs : List Record) where
       let a = any-some (writes (w .key)) (of n rs) (and-left (wrote (w .key) (of n rs)) (any (late s) (of (w .transaction) rs)) both) in
       let r = a .at in
       let u = and-left (isUpdate r) (eqb (r .key) (w .key)) (a .passes) in
-      let rk : r .key ≡ w .key = eqb-true (r .key) (w .key) (and-right (isUpdate r) (eqb (r .key) (w .key)) (a .passes)) in
+      let rk = turned (r .key) (w .key) (and-right (isUpdate r) (eqb (r .key) (w .key)) (a .passes)) in
       let b = any-some (late s) (of (w .transaction) rs) (and-right (wrote (w .key) (of n rs)) (any (late s) (of (w .transaction) rs)) both) in
       let c = b .at in
       let o = of-in (w .transaction) c rs (b .here) in
-      let same : eqb (w .transaction) (c .transaction) ≡ true = eq-eqb _ _ (sym (eqb-true (c .transaction) (w .transaction) (o .1))) in
+      let same : eqb (w .transaction) (c .transaction) ≡ true = turned (c .transaction) (w .transaction) (o .1) in
       let theirs : wrote (r .key) (of (c .transaction) rs) ≡ true =
       some-any (writes (r .key)) w (of (c .transaction) rs) (in-of (c .transaction) w rs (d .here) same)
-      (and-both (isUpdate w) (eqb (w .key) (r .key)) wu (eq-eqb _ _ (sym rk)))
+      (and-both (isUpdate w) (eqb (w .key) (r .key)) wu rk)
       in
       let after : wroteAfter rs s (r .key) c ≡ true =
       and-both (isCommit c) (ltb s (c .time) && wrote (r .key) (of (c .transaction) rs)) (and-left (isCommit c) (ltb s (c .time)) (b .passes))

@@ -1,11 +1,12 @@
--- No second answer satisfies the contract of a public function that says what the records say of transactions and times. Assumes nothing.
-use mathlib.Core.Path.{_≡_, sym, _∙_}
+-- No second answer satisfies the contract of a public function, nor a second column at exit. Assumes nothing.
+use mathlib.Core.Path.{_≡_, sym, ap, _∙_}
 use mathlib.Core.Bool.{Bool, not, _&&_}
-use mathlib.Core.List.{List}
+use mathlib.Core.List.{List, _++_, reverse}
 use Prim.Native.Nat.{ℕ}
 use lib.Dec.{ltb}
+use lib.ListN.{drop}
 use Rattle.rules.specs.declared.Record.{Record}
-use Rattle.rules.specs.Transactions.{any, of, runs}
+use Rattle.rules.specs.Transactions.{any, of, runs, running}
 use Rattle.rules.specs.Times.{last, next}
 use Rattle.rules.specs.Conflicts.{clashes}
 use Rattle.rules.specs.Checkpoints.{held}
@@ -15,6 +16,12 @@ use Rattle.journal.specs.declared.Journal.{Journal}
 use Rattle.journal.specs.declared.transactions.Trace.{Trace}
 use Rattle.journal.specs.Kinds.{emptyBase, emptyJournal}
 use Rattle.journal.specs.Walks.{traceOf, Counted}
+use Rattle.journal.specs.Gathered.{lates, Gathered}
+
+-- a column filled: how many rows, and each cell at exit
+once : (xs : List ℕ) (used r s : ℕ) (entry exit other : List ℕ) → Gathered xs used r entry exit → Gathered xs used s entry other → (r ≡ s) × (exit ≡ other)
+once xs used r s entry exit other p q =
+    let e : r ≡ s = p .many ∙ sym (q .many) in (e, p .cells ∙ ap (λ (n : ℕ). reverse xs ++ drop n entry) e ∙ sym (q .cells))
 
 pub base-unique : (a b : Base) → a ≡ emptyBase → b ≡ emptyBase → a ≡ b
 base-unique a b p q = p ∙ sym q
@@ -41,6 +48,10 @@ module _ (rs : List Record) where
   pub runs-unique : (n : ℕ) (a b : Bool) → a ≡ runs n rs → b ≡ runs n rs → a ≡ b
   runs-unique n a b p q = p ∙ sym q
 
+  pub running-numbers-unique : (used a b : ℕ) (entry exit other : List ℕ) → Gathered (running rs) used a entry exit
+      → Gathered (running rs) used b entry other → (a ≡ b) × (exit ≡ other)
+  running-numbers-unique used a b entry exit other p q = once (running rs) used a b entry exit other p q
+
   pub count-running-unique : (used a b : ℕ) → Counted rs used a → Counted rs used b → a ≡ b
   count-running-unique used a b p q = p .count ∙ sym (q .count)
 
@@ -49,6 +60,10 @@ module _ (rs : List Record) where
 
   pub may-write-unique : (n k : ℕ) (a b : Bool) → a ≡ mayWrite n k rs → b ≡ mayWrite n k rs → a ≡ b
   may-write-unique n k a b p q = p ∙ sym q
+
+  pub late-numbers-unique : (s used a b : ℕ) (entry exit other : List ℕ) → Gathered (lates s rs) used a entry exit
+      → Gathered (lates s rs) used b entry other → (a ≡ b) × (exit ≡ other)
+  late-numbers-unique s used a b entry exit other p q = once (lates s rs) used a b entry exit other p q
 
   pub conflict-unique : (n snapshot : ℕ) (a b : Bool) → a ≡ any (clashes rs snapshot) (of n rs) → b ≡ any (clashes rs snapshot) (of n rs) → a ≡ b
   conflict-unique n snapshot a b p q = p ∙ sym q

@@ -3,27 +3,15 @@ ghost use mathlib.Core.Path.{_≡_};
 ghost use Prim.Native.Nat.{_*_, _≤_};
 ghost use lib.ListN.{length, take};
 ghost use Rattle.rules.specs.Kinds.{recordBytes};
-ghost use Rattle.rules.specs.Transactions.{any, of};
-ghost use Rattle.rules.specs.Lists.{among};
+ghost use Rattle.rules.specs.Transactions.{any, of, keysWritten};
 ghost use Rattle.rules.specs.Conflicts.{clashes};
 ghost use Rattle.rules.specs.Recovery.{mayWrite};
 ghost use Rattle.record.specs.Bytes.{newest};
 ghost use Rattle.journal.specs.Past.{Past};
-ghost use Rattle.journal.specs.Gathered.{newKey, metIn, KeysOf, LateOf};
+ghost use Rattle.journal.specs.Gathered.{newKey, metIn, lates, Gathered};
 use crate::Journal;
 use crate::times;
-use column::Found;
 use rules::Record;
-
-// Whether a number stands in the first rows of a column.
-pub(crate) fn is_in(column: &[u32], count: usize, number: u32) -> bool
-    ensures { λ b. ⌜ b ≡ among number (take count (now (column .entry))) ⌝ }
-{
-    match column::find(column, count, number) {
-        Found::At(_) => true,
-        Found::Nothing => false,
-    }
-}
 
 // Whether a record is an update of the transaction, of a key that is not in the column yet.
 fn is_new_key(r: Record, n: u32, keys: &[u32], count: usize) -> bool
@@ -33,7 +21,7 @@ fn is_new_key(r: Record, n: u32, keys: &[u32], count: usize) -> bool
         return false;
     }
     if r.is_update() {
-        return !is_in(keys, count, r.key);
+        return !column::is_in(keys, count, r.key);
     }
     false
 }
@@ -41,7 +29,7 @@ fn is_new_key(r: Record, n: u32, keys: &[u32], count: usize) -> bool
 // The distinct keys that a transaction wrote, into a column; how many they are.
 fn keys_written(journal: &[u8], used: usize, n: u32, keys: &mut [u32]) -> usize
     requires { ⌜ (used * recordBytes ≤ length (now journal)) × (used ≤ length (now keys)) ⌝ }
-    ensures { λ r. ⌜ KeysOf (of n (newest used (now (journal .entry)))) used r (now (keys .exit)) ⌝ }
+    ensures { λ r. ⌜ Gathered (keysWritten (of n (newest used (now (journal .entry))))) used r (now (keys .entry)) (now (keys .exit)) ⌝ }
 {
     let mut count = 0;
     let mut i = 0;
@@ -66,13 +54,13 @@ pub fn may_write(journal: &[u8], used: usize, n: u32, k: u32) -> bool
     if count < Journal::KEYS {
         return true;
     }
-    is_in(&keys, count, k)
+    column::is_in(&keys, count, k)
 }
 
-// The transactions that committed later than a time, into a column; how many entries it has.
-pub(crate) fn late_numbers(journal: &[u8], used: usize, s: u64, numbers: &mut [u32]) -> usize
+// The transactions that committed later than a time, into a column in the order of these commits; how many commits there are.
+pub fn late_numbers(journal: &[u8], used: usize, s: u64, numbers: &mut [u32]) -> usize
     requires { ⌜ (used * recordBytes ≤ length (now journal)) × (used ≤ length (now numbers)) ⌝ }
-    ensures { λ r. ⌜ LateOf (newest used (now (journal .entry))) s used r (now (numbers .exit)) ⌝ }
+    ensures { λ r. ⌜ Gathered (lates s (newest used (now (journal .entry)))) used r (now (numbers .entry)) (now (numbers .exit)) ⌝ }
 {
     let mut count = 0;
     let mut i = 0;
@@ -92,8 +80,8 @@ fn is_met(r: Record, keys: &[u32], written: usize, numbers: &[u32], late: usize)
     ensures { λ b. ⌜ b ≡ metIn (take written (now (keys .entry))) (take late (now (numbers .entry))) r ⌝ }
 {
     if r.is_update() {
-        if is_in(keys, written, r.key) {
-            return is_in(numbers, late, r.transaction);
+        if column::is_in(keys, written, r.key) {
+            return column::is_in(numbers, late, r.transaction);
         }
     }
     false
@@ -123,7 +111,7 @@ fn any_met(
 }
 
 // Whether somebody who committed later than a time wrote a key that the transaction has written.
-pub(crate) fn conflict_since(journal: &[u8], used: usize, n: u32, s: u64) -> bool
+fn conflict_since(journal: &[u8], used: usize, n: u32, s: u64) -> bool
     requires { ⌜ (used ≤ 2048) × (used * recordBytes ≤ length (now journal)) ⌝ }
     ensures { λ b. ⌜ b ≡ any (clashes (newest used (now (journal .entry))) s) (of n (newest used (now (journal .entry)))) ⌝ }
 {

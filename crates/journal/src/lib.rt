@@ -1,14 +1,11 @@
-// What the records of a journal say: rules 3.2, 3.3 and 3.6 and section 5's walk, read only; and, in compact, the records that a checkpoint and a
-// recovery keep, moved up in place. Damaged records are records like any other; unknown kinds are passed over. Every walk asks that the used records
-// are there.
+// What the records of a journal say of transactions, times and conflicts: rules 3.2, 3.3 and 3.6, read only. Damaged records are records like any
+// other; unknown kinds are passed over. Every pass asks that the used records are there.
 ghost use mathlib.Core.Path.{_≡_};
 ghost use Rattle.journal.specs.Kinds.{emptyBase, emptyJournal};
 
-pub mod compact;
 pub mod conflicts;
 pub mod times;
 pub mod transactions;
-pub mod walk;
 
 // The base table below the journal: how many of its rows are used.
 #[repr(C)]

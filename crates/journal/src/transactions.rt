@@ -4,12 +4,12 @@ ghost use mathlib.Core.Bool.{not, _&&_};
 ghost use Prim.Native.Nat.{_-_, _*_, _≤_};
 ghost use lib.ListN.{length};
 ghost use Rattle.rules.specs.Kinds.{recordBytes};
-ghost use Rattle.rules.specs.Transactions.{of, opens, runs as runsIn};
+ghost use Rattle.rules.specs.Transactions.{of, opens, runs as runsIn, running};
 ghost use Rattle.rules.specs.Checkpoints.{heldBy, held as heldIn};
 ghost use Rattle.record.specs.Bytes.{newest};
 ghost use Rattle.journal.specs.Walks.{traced, traceOf, endedBy, Counted};
 ghost use Rattle.journal.specs.Ends.{ends as endsIn, endedFrom, top as topIn};
-ghost use Rattle.journal.specs.CompactColumns.{RunningOf};
+ghost use Rattle.journal.specs.Gathered.{Gathered};
 use crate::Journal;
 use crate::times;
 use rules::Record;
@@ -145,10 +145,10 @@ fn opens_at(journal: &[u8], used: usize, i: usize, top: u64, r: Record) -> bool
     !before.ended
 }
 
-// The running transactions, into a column; how many they are.
-pub(crate) fn running_numbers(journal: &[u8], used: usize, numbers: &mut [u32]) -> usize
+// The running transactions, into a column in the order of their begins; how many they are.
+pub fn running_numbers(journal: &[u8], used: usize, numbers: &mut [u32]) -> usize
     requires { ⌜ (used * recordBytes ≤ length (now journal)) × (used ≤ length (now numbers)) ⌝ }
-    ensures { λ r. ⌜ RunningOf (newest used (now (journal .entry))) used r (now (numbers .exit)) ⌝ }
+    ensures { λ r. ⌜ Gathered (running (newest used (now (journal .entry)))) used r (now (numbers .entry)) (now (numbers .exit)) ⌝ }
 {
     let mut count = 0;
     let mut top = 0;

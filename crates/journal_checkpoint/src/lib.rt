@@ -147,7 +147,7 @@ pub fn checkpoint(
     if room < rows {
         return refused(h, Refusal::NoRoom);
     }
-    let kept = journal::compact::keep_running(journal, used, t);
+    let kept = compact::keep_running(journal, used, t);
     Outcome {
         head: Head {
             low: t,

@@ -17,7 +17,7 @@ use Rattle.answer.specs.declared.Refusal.{Refusal}
 use Rattle.answer.specs.declared.Refusal.the-variants.{BadShape, NoRoom}
 use Rattle.answer.specs.Reply.{Reply, numberOf, placeOf, refused, accepted, told, after}
 use Rattle.answer.specs.Laws.{refused-some, after-refused}
-use Rattle.journal.specs.Compact.{compacted, Compacted}
+use Rattle.compact.specs.Compact.{compacted, Compacted}
 use Rattle.journal_store.specs.declared.Head.{Head}
 use Rattle.journal_store.specs.Shape.{isShaped, rowRoom, meaning}
 use Rattle.journal_store.specs.List.{listOf}

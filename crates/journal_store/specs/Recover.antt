@@ -17,7 +17,7 @@ use Rattle.rules.specs.Times.{next}
 use Rattle.rules.specs.Recovery.{walk, survivors}
 use Rattle.record.specs.Bytes.{newest}
 use Rattle.answer.specs.Reply.{Reply, accepted, after}
-use Rattle.journal.specs.Compact.{compacted}
+use Rattle.compact.specs.Compact.{compacted}
 use Rattle.journal_store.specs.declared.Head.{Head}
 
 -- keys strictly rise, all above m

@@ -20,8 +20,8 @@ use Rattle.rules.specs.Times.{next}
 use Rattle.rules.specs.Calls.{Store, Call, nextOf, recordOf, need, answer, checkpointRefusal, checkpointAnswer}
 use Rattle.record.specs.Bytes.{newest, appended}
 use Rattle.record.specs.Laws.{length-newest, length-appended}
-use Rattle.journal.specs.Compact.{compacted}
-use Rattle.journal.specs.CompactLaws.{length-compacted, length-kept, length-only}
+use Rattle.compact.specs.Compact.{compacted}
+use Rattle.compact.specs.Laws.{length-compacted, length-kept, length-only}
 use Rattle.journal_store.specs.declared.Head.{Head}
 use Rattle.journal_store.specs.Shape.{grown, isShaped, Shaped, roomOf, rowRoom, meaning}
 use Rattle.journal_store.specs.Write.{room-left, need-some}

@@ -19,8 +19,8 @@ use Rattle.rules.specs.Calls.{Store, Call, Begin, Update, Abort, Commit, record
 use Rattle.record.specs.Bytes.{Bytes, newest, appended}
 use Rattle.record.specs.Laws.{Fit, newest-appended}
 use Rattle.record.specs.Laid.{fit-newest}
-use Rattle.journal.specs.Compact.{compacted}
-use Rattle.journal.specs.CompactLaws.{newest-compacted, fit-kept, fit-only}
+use Rattle.compact.specs.Compact.{compacted}
+use Rattle.compact.specs.Laws.{newest-compacted, fit-kept, fit-only}
 use Rattle.journal_store.specs.declared.Head.{Head}
 use Rattle.journal_store.specs.Shape.{grown, meaning}
 use Rattle.journal_store.specs.List.{listOf}

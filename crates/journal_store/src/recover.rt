@@ -74,7 +74,7 @@ pub fn recover(
         };
     }
     let used = survived / Record::BYTES;
-    let walked = journal::walk::walk(journal, used, h.low);
+    let walked = walk::walk(journal, used, h.low);
     match walked {
         Walked::BadAt(place) => Outcome {
             head: h,
@@ -82,7 +82,7 @@ pub fn recover(
         },
         Walked::Whole => {
             let floor = journal::times::next(journal, used, h.floor);
-            let kept = journal::compact::keep_done(journal, used, h.low, survived);
+            let kept = compact::keep_done(journal, used, h.low, survived);
             let base = h.base;
             Outcome {
                 head: Head {

@@ -30,8 +30,8 @@ use Rattle.answer.specs.declared.Listed.{Listed}
 use Rattle.answer.specs.declared.Listed.the-variants as listed-as
 use Rattle.answer.specs.Reply.{Reply, numberOf, placeNumber, refused, ofDone, ofListed, after}
 use Rattle.answer.specs.Laws.{refused-some}
-use Rattle.journal.specs.Compact.{compacted}
-use Rattle.journal.specs.CompactLaws.{length-only}
+use Rattle.compact.specs.Compact.{compacted}
+use Rattle.compact.specs.Laws.{length-only}
 use Rattle.journal_store.specs.declared.Head.{Head}
 use Rattle.journal_store.specs.Shape.{emptyHead, meaning}
 use Rattle.journal_store.specs.List.{listOf, isListShaped, listNumber, ListedBy, list-rows}

@@ -12,7 +12,7 @@ use Rattle.rules.specs.Values.{Row}
 use Rattle.rules.specs.Lists.{listAt}
 use Rattle.rules.specs.Recovery.{walk, survivors}
 use Rattle.decimal.specs.Digits.{digits}
-use Rattle.journal.specs.Compact.{compacted}
+use Rattle.compact.specs.Compact.{compacted}
 use Rattle.journal_store.specs.Recover.{journalBytes, surviving}
 
 -- the one byte that ends a line

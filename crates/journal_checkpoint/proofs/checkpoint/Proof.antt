@@ -15,7 +15,7 @@ use Rattle.rules.specs.Calls.{nextOf, checkpointRefusal}
 use Rattle.answer.specs.declared.Done.{Done}
 use Rattle.answer.specs.declared.Refusal.the-variants.{NoRoom}
 use Rattle.answer.specs.Reply.{Reply, ofDone, refused, accepted, told}
-use Rattle.journal.specs.Compact.{compacted}
+use Rattle.compact.specs.Compact.{compacted}
 use Rattle.values.specs.Pass.{Lent}
 use Rattle.journal_store.specs.declared.Head.{Head}
 use Rattle.journal_store.specs.declared.Outcome.{Outcome}

@@ -5,10 +5,10 @@ use mathlib.Core.List.{List, [], _∷_}
 use Prim.Native.Nat.{ℕ}
 use lib.ListN.{take}
 use Rattle.rules.specs.declared.Record.{Record}
-use Rattle.rules.specs.Transactions.{any, of}
+use Rattle.rules.specs.Transactions.{any, of, keysWritten}
 use Rattle.rules.specs.Conflicts.{clashes}
 use Rattle.record.specs.Bytes.{newest}
-use Rattle.journal.specs.Gathered.{metIn, KeysOf, LateOf}
+use Rattle.journal.specs.Gathered.{metIn, lates, Gathered, keys-held, late-held}
 use Rattle.journal.specs.Meets.{meets, meets-clashes}
 use borrow.Author.Needs.{needs}
 use denote.Ref.{now}
@@ -20,12 +20,13 @@ any-same : (p q : Record → Bool) → ((r : Record) → p r ≡ q r) → (rs : 
 any-same p q h [] = refl
 any-same p q h (r ∷ rs) = rw (h r, any-same p q h rs)
 
-told : (n s used written late : ℕ) (rs : List Record) (keys numbers : List ℕ) (b : Bool) → KeysOf (of n rs) used written keys
-    → LateOf rs s used late numbers → b ≡ any (metIn (take written keys) (take late numbers)) rs → b ≡ any (clashes rs s) (of n rs)
-told n s used written late rs keys numbers b k l h =
+told : (n s used written late : ℕ) (rs : List Record) (entry keys other numbers : List ℕ) (b : Bool)
+    → Gathered (keysWritten (of n rs)) used written entry keys → Gathered (lates s rs) used late other numbers
+    → b ≡ any (metIn (take written keys) (take late numbers)) rs → b ≡ any (clashes rs s) (of n rs)
+told n s used written late rs entry keys other numbers b k l h =
     h
     ∙ any-same (metIn (take written keys) (take late numbers)) (meets rs (of n rs) s)
-    (λ r. rw (k .held (r .key), l .held (r .transaction))) rs
+    (λ r. rw (keys-held (of n rs) used written entry keys k (r .key), late-held rs used late other numbers s l (r .transaction))) rs
     ∙ meets-clashes n s rs
 
 slice-aggregate-keys-written : tie.Need-slice-aggregate-keys-written
@@ -54,7 +55,7 @@ returns c =
     let l = c .before .before .before .before in
     let w = l .before .before .before in
     let a = w .before .before .before .args in
-    told (a .n) (a .s) (a .used) _ _ (newest (a .used) (now (a .journal))) _ _ _ (w .keys-written .ensures) (l .late-numbers .ensures)
+    told (a .n) (a .s) (a .used) _ _ (newest (a .used) (now (a .journal))) _ _ _ _ _ (w .keys-written .ensures) (l .late-numbers .ensures)
     (c .any-met .ensures)
 
 pub conflict-since-spec : {M : Type 1} → statement M

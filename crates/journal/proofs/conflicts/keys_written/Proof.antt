@@ -1,13 +1,13 @@
 -- `journal::conflicts::keys_written` meets its contract. The loop's invariant: the column holds the distinct keys of the records passed.
 -- Assumes nothing.
-use mathlib.Core.Path.{_≡_, refl, sym, _∙_}
+use mathlib.Core.Path.{_≡_, refl}
 use mathlib.Core.Logic.{⊎-elim}
-use Prim.Native.Nat.{ℕ, _≤_, _-_, _+_}
-use lib.ListN.{length, length-set}
-use Rattle.rules.specs.Transactions.{of}
+use Prim.Native.Nat.{_≤_, _-_, _+_}
+use lib.ListN.{length, take, length-set}
+use Rattle.rules.specs.Transactions.{of, keysWritten}
 use Rattle.record.specs.Bytes.{newest}
-use Rattle.record.specs.Walks.{onward, arrived}
-use Rattle.journal.specs.Gathered.{KeysOf, key-more, key-same}
+use Rattle.record.specs.Walks.{onward}
+use Rattle.journal.specs.Gathered.{newKey, Gathered, gathered-none, gathered-more, gathered-same, keys-held, keys-more}
 use borrow.Author.Needs.{needs}
 use native.Mathlib.Omega.{arith}
 use denote.Ref.{now}
@@ -15,13 +15,13 @@ use Rattle.journal.proofs.conflicts.keys_written.Statement.{statement}
 use Rattle.journal.proofs.conflicts.keys_written.Tie as tie
 
 abbrev Inv-loop : tie.InvT-loop
-Inv-loop journal used n keys₀ count₀ i₀ keys count i = (i ≤ used) × (length keys ≡ length keys₀) × KeysOf (of n (newest i journal)) i count keys
+Inv-loop journal used n keys₀ count₀ i₀ keys count i = (i ≤ used) × (length keys ≡ length keys₀) × Gathered (keysWritten (of n (newest i journal))) i count keys₀ keys
 
 abbrev μ-loop : tie.MeasureT-loop
 μ-loop journal used n keys₀ count₀ i₀ keys count i = used - i
 
 loop-holds : tie.Need-loop-holds Inv-loop μ-loop
-loop-holds c = (omega arith, refl, record { few = omega arith; many = refl; held = λ k. refl })
+loop-holds c = (omega arith, refl, gathered-none _)
 
 read-requires : tie.Need-read-requires Inv-loop μ-loop
 read-requires c κs = search needs
@@ -50,14 +50,23 @@ loop-again c =
     let l = t .before .before .before .before .loop in
     let a = t .before .before .before .before .before .before .before .args in
     let r = t .before .before .read in
-    let j = now (a .journal) in (
+    let j = now (a .journal) in
+    let rs = newest (l .i) j in
+    let xs = keysWritten (of (a .n) rs) in
+    let test = newKey (a .n) (take (l .count) (l .keys)) (r .result) in
+    let told = keys-held (of (a .n) rs) (l .i) (l .count) (now (a .keys)) (l .keys) (l .inv .2) (r .result .key) in (
       omega arith,
       ⊎-elim (λ w. rw (w .1) (simp length-set (l .inv .1))) (λ w. rw (w .1) (l .inv .1)) (c .if1 .came),
-      onward (λ rs. KeysOf (of (a .n) rs) (l .i + 1) (c .if1 .count) (c .if1 .keys)) j (l .i) _ (r .ensures)
+      onward (λ ys. Gathered (keysWritten (of (a .n) ys)) (l .i + 1) (c .if1 .count) (now (a .keys)) (c .if1 .keys)) j (l .i) _ (r .ensures)
+          (rw (keys-more (a .n) (take (l .count) (l .keys)) (r .result) rs told)
           (⊎-elim
-          (λ w. key-more (a .n) (a .used) (l .i) (l .count) _ (newest (l .i) j) _ (l .inv .2) _ _ (omega arith) (sym (t .is-new-key .ensures) ∙ w .0 .taken) (w .2) (w .1))
-          (λ w. key-same (a .n) (a .used) (l .i) (l .count) _ (newest (l .i) j) _ (l .inv .2) _ _ (sym (t .is-new-key .ensures) ∙ w .0 .left) (w .2) (w .1))
-          (c .if1 .came)),
+          (λ w.
+          gathered-more xs (l .i) (l .count) (now (a .keys)) (l .keys) (l .inv .2) test _ (t .is-new-key .ensures) (r .result .key) _ _ (omega arith)
+          (w .0 .taken) (w .2) (w .1))
+          (λ w.
+          gathered-same xs (l .i) (l .count) (now (a .keys)) (l .keys) (l .inv .2) test _ (t .is-new-key .ensures) (r .result .key) _ _
+          (w .0 .left) (w .2) (w .1))
+          (c .if1 .came))),
     )
 
 same-length : tie.Need-same-length Inv-loop μ-loop

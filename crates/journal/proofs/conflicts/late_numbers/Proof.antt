@@ -1,12 +1,13 @@
 -- `journal::conflicts::late_numbers` meets its contract. The loop's invariant: the column holds the transactions of the late commits passed.
 -- Assumes nothing.
-use mathlib.Core.Path.{_≡_, refl, sym, _∙_}
+use mathlib.Core.Path.{_≡_, refl}
 use mathlib.Core.Logic.{⊎-elim}
-use Prim.Native.Nat.{ℕ, _≤_, _-_, _+_}
+use Prim.Native.Nat.{_≤_, _-_, _+_}
 use lib.ListN.{length, length-set}
+use Rattle.rules.specs.Checkpoints.{late}
 use Rattle.record.specs.Bytes.{newest}
-use Rattle.record.specs.Walks.{onward, arrived}
-use Rattle.journal.specs.Gathered.{LateOf, late-more, late-same}
+use Rattle.record.specs.Walks.{onward}
+use Rattle.journal.specs.Gathered.{lates, Gathered, gathered-none, gathered-more, gathered-same}
 use borrow.Author.Needs.{needs}
 use native.Mathlib.Omega.{arith}
 use denote.Ref.{now}
@@ -14,13 +15,13 @@ use Rattle.journal.proofs.conflicts.late_numbers.Statement.{statement}
 use Rattle.journal.proofs.conflicts.late_numbers.Tie as tie
 
 abbrev Inv-loop : tie.InvT-loop
-Inv-loop journal used s numbers₀ count₀ i₀ numbers count i = (i ≤ used) × (length numbers ≡ length numbers₀) × LateOf (newest i journal) s i count numbers
+Inv-loop journal used s numbers₀ count₀ i₀ numbers count i = (i ≤ used) × (length numbers ≡ length numbers₀) × Gathered (lates s (newest i journal)) i count numbers₀ numbers
 
 abbrev μ-loop : tie.MeasureT-loop
 μ-loop journal used s numbers₀ count₀ i₀ numbers count i = used - i
 
 loop-holds : tie.Need-loop-holds Inv-loop μ-loop
-loop-holds c = (omega arith, refl, record { few = omega arith; held = λ m. refl })
+loop-holds c = (omega arith, refl, gathered-none _)
 
 read-requires : tie.Need-read-requires Inv-loop μ-loop
 read-requires c κs = search needs
@@ -49,13 +50,19 @@ loop-again c =
     let l = t .before .before .before .loop in
     let a = t .before .before .before .before .before .before .args in
     let r = t .before .read in
-    let j = now (a .journal) in (
+    let j = now (a .journal) in
+    let xs = lates (a .s) (newest (l .i) j) in
+    let test = late (a .s) (r .result) in (
       omega arith,
       ⊎-elim (λ w. rw (w .1) (simp length-set (l .inv .1))) (λ w. rw (w .1) (l .inv .1)) (c .if1 .came),
-      onward (λ rs. LateOf rs (a .s) (l .i + 1) (c .if1 .count) (c .if1 .numbers)) j (l .i) _ (r .ensures)
+      onward (λ rs. Gathered (lates (a .s) rs) (l .i + 1) (c .if1 .count) (now (a .numbers)) (c .if1 .numbers)) j (l .i) _ (r .ensures)
           (⊎-elim
-          (λ w. late-more (a .s) (l .i) (l .count) _ (newest (l .i) j) _ (l .inv .2) _ _ (omega arith) (sym (t .is-late .ensures) ∙ w .0 .taken) (w .2) (w .1))
-          (λ w. late-same (a .s) (l .i) (l .count) _ (newest (l .i) j) _ (l .inv .2) _ _ (sym (t .is-late .ensures) ∙ w .0 .left) (w .2) (w .1))
+          (λ w.
+          gathered-more xs (l .i) (l .count) (now (a .numbers)) (l .numbers) (l .inv .2) test _ (t .is-late .ensures) (r .result .transaction) _ _
+          (omega arith) (w .0 .taken) (w .2) (w .1))
+          (λ w.
+          gathered-same xs (l .i) (l .count) (now (a .numbers)) (l .numbers) (l .inv .2) test _ (t .is-late .ensures) (r .result .transaction) _ _
+          (w .0 .left) (w .2) (w .1))
           (c .if1 .came)),
     )
 

@@ -1,6 +1,6 @@
 -- `journal::conflicts::may_write` meets its contract: fewer than 32 keys, or this one among them. Assumes nothing.
-use mathlib.Core.Path.{_≡_, refl, sym, _∙_}
-use mathlib.Core.Bool.{Bool, true, _||_}
+use mathlib.Core.Path.{_≡_, sym, _∙_}
+use mathlib.Core.Bool.{Bool, true}
 use mathlib.Core.List.{List}
 use Prim.Native.Nat.{ℕ, _≤_, _<_}
 use lib.Dec.{ltb}
@@ -12,18 +12,18 @@ use Rattle.rules.specs.Lists.{among}
 use Rattle.rules.specs.Transactions.{of, wrote, keysWritten}
 use Rattle.rules.specs.Recovery.{mayWrite}
 use Rattle.record.specs.Bytes.{newest}
-use Rattle.journal.specs.Gathered.{KeysOf}
+use Rattle.journal.specs.Gathered.{Gathered, keys-held}
 use borrow.Author.Needs.{needs}
 use denote.Ref.{now}
 use Rattle.journal.proofs.conflicts.may_write.Statement.{statement}
 use Rattle.journal.proofs.conflicts.may_write.Tie as tie
 
-module _ (n k used count : ℕ) (rs : List Record) (keys : List ℕ) (h : KeysOf (of n rs) used count keys) where
+module _ (n k used count : ℕ) (rs : List Record) (entry keys : List ℕ) (h : Gathered (keysWritten (of n rs)) used count entry keys) where
   few : count < 32 → true ≡ mayWrite n k rs
   few l = sym (or-right (wrote k (of n rs)) (ltb (length (keysWritten (of n rs))) 32) (rw (h .many) at (lt-ltb count 32 l)))
 
   many : 32 ≤ count → (b : Bool) → b ≡ among k (take count keys) → b ≡ mayWrite n k rs
-  many l b e = e ∙ h .held k ∙ sym (rw (← h .many, le-ltb count 32 l) (or-false (wrote k (of n rs))))
+  many l b e = e ∙ keys-held (of n rs) used count entry keys h k ∙ sym (rw (← h .many, le-ltb count 32 l) (or-false (wrote k (of n rs))))
 
 slice-aggregate-keys-written : tie.Need-slice-aggregate-keys-written
 slice-aggregate-keys-written c = search needs
@@ -35,7 +35,7 @@ returns : tie.Need-returns
 returns c =
     let w = c .before .before in
     let a = w .before .before .before .args in
-    few (a .n) (a .k) (a .used) _ (newest (a .used) (now (a .journal))) _ (w .keys-written .ensures) (c .if1 .taken)
+    few (a .n) (a .k) (a .used) _ (newest (a .used) (now (a .journal))) _ _ (w .keys-written .ensures) (c .if1 .taken)
 
 slice-aggregate-is-in : tie.Need-slice-aggregate-is-in
 slice-aggregate-is-in c = search needs
@@ -48,7 +48,7 @@ returns-2 c =
     let e = c .before .before in
     let w = e .before .before in
     let a = w .before .before .before .args in
-    many (a .n) (a .k) (a .used) _ (newest (a .used) (now (a .journal))) _ (w .keys-written .ensures) (e .if1 .left) _ (c .is-in .ensures)
+    many (a .n) (a .k) (a .used) _ (newest (a .used) (now (a .journal))) _ _ (w .keys-written .ensures) (e .if1 .left) _ (c .is-in .ensures)
 
 pub may-write-spec : {M : Type 1} → statement M
 may-write-spec =

@@ -1,14 +1,15 @@
 -- `journal::transactions::running_numbers` meets its contract. The loop's invariant: the column holds the running transactions that the records
 -- passed begin, and top is one more than the highest number in them. Assumes nothing.
-use mathlib.Core.Path.{_≡_, refl, sym, _∙_}
+use mathlib.Core.Path.{_≡_, refl}
 use mathlib.Core.Logic.{⊎-elim}
 use Prim.Native.Nat.{ℕ, _≤_, _-_, _+_, max}
 use lib.ListN.{length, length-set}
 use Rattle.rules.specs.declared.Record.{Record}
+use Rattle.rules.specs.Transactions.{opens, runningIn}
 use Rattle.record.specs.Bytes.{newest}
 use Rattle.record.specs.Walks.{onward, turn}
 use Rattle.journal.specs.Ends.{top}
-use Rattle.journal.specs.CompactColumns.{Opened, open-more, open-same, opened-all}
+use Rattle.journal.specs.Gathered.{Gathered, gathered-none, gathered-more, gathered-same}
 use borrow.Author.Needs.{needs}
 use native.Mathlib.Omega.{arith}
 use denote.Ref.{now}
@@ -17,13 +18,13 @@ use Rattle.journal.proofs.transactions.running_numbers.Tie as tie
 
 abbrev Inv-loop : tie.InvT-loop
 Inv-loop journal used numbers₀ count₀ top₀ i₀ numbers count most i =
-    (i ≤ used) × (length numbers ≡ length numbers₀) × (most ≡ top (newest i journal)) × Opened (newest used journal) (newest i journal) i count numbers
+    (i ≤ used) × (length numbers ≡ length numbers₀) × (most ≡ top (newest i journal)) × Gathered (runningIn (newest used journal) (newest i journal)) i count numbers₀ numbers
 
 abbrev μ-loop : tie.MeasureT-loop
 μ-loop journal used numbers₀ count₀ top₀ i₀ numbers count most i = used - i
 
 loop-holds : tie.Need-loop-holds Inv-loop μ-loop
-loop-holds c = (omega arith, refl, refl, record { few = omega arith; many = refl; held = λ m. refl })
+loop-holds c = (omega arith, refl, refl, gathered-none _)
 
 read-requires : tie.Need-read-requires Inv-loop μ-loop
 read-requires c κs = search needs
@@ -57,18 +58,21 @@ loop-again c =
     let s = t .before .before .before .before .before .before in
     let a = s .args in
     let r = t .before .read in
-    let j = now (a .journal) in (
+    let j = now (a .journal) in
+    let rs = newest (l .i) j in
+    let whole = newest (a .used) j in
+    let test = opens whole (r .result) rs in (
       omega arith,
       ⊎-elim (λ w. rw (w .1) (simp length-set (l .inv .1))) (λ w. rw (w .1) (l .inv .1)) (n .if1 .came),
       turn top (λ (x : Record) (m : ℕ). max m (x .transaction + 1)) (λ x rs. refl) j (l .i) _ _ _ (c .above .ensures) (r .ensures) (l .inv .2),
-      onward (λ rs. Opened (newest (a .used) j) rs (l .i + 1) (n .if1 .count) (n .if1 .numbers)) j (l .i) _ (r .ensures)
+      onward (λ ys. Gathered (runningIn whole ys) (l .i + 1) (n .if1 .count) (now (a .numbers)) (n .if1 .numbers)) j (l .i) _ (r .ensures)
           (⊎-elim
           (λ w.
-          open-more (newest (a .used) j) (l .i) (l .count) (newest (l .i) j) _ (l .inv .3) (r .result) _ _ (omega (arith, s .pre .1))
-          (sym (t .opens-at .ensures) ∙ w .0 .taken) (w .2) (w .1))
+          gathered-more (runningIn whole rs) (l .i) (l .count) (now (a .numbers)) (l .numbers) (l .inv .3) test _ (t .opens-at .ensures)
+          (r .result .transaction) _ _ (omega (arith, s .pre .1)) (w .0 .taken) (w .2) (w .1))
           (λ w.
-          open-same (newest (a .used) j) (l .i) (l .count) (newest (l .i) j) _ (l .inv .3) (r .result) _ _
-          (sym (t .opens-at .ensures) ∙ w .0 .left) (w .2) (w .1))
+          gathered-same (runningIn whole rs) (l .i) (l .count) (now (a .numbers)) (l .numbers) (l .inv .3) test _ (t .opens-at .ensures)
+          (r .result .transaction) _ _ (w .0 .left) (w .2) (w .1))
           (n .if1 .came)),
     )
 
@@ -80,7 +84,7 @@ returns c =
     let l = c .before .loop in
     let a = c .before .before .before .before .args in
     let e : l .i ≡ a .used = omega arith in
-    opened-all (newest (a .used) (now (a .journal))) (a .used) _ _ (rw e at (l .inv .3))
+    rw e at (l .inv .3)
 
 pub running-numbers-spec : {M : Type 1} → statement M
 running-numbers-spec =

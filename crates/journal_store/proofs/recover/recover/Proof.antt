@@ -5,7 +5,7 @@ use Prim.Native.Nat.{_*_, _≤_, _/_}
 use borrow.Author.Tests.{not-true, not-false}
 use lib.ListN.{length}
 use Rattle.rules.specs.Recovery.{accepts}
-use Rattle.journal.specs.WalkJudged.{walk-whole}
+use Rattle.walk.specs.Judged.{walk-whole}
 use Rattle.journal_store.specs.Recover.{surviving, recoverable, recover-bad, recover-refused, recover-done}
 use borrow.Author.Needs.{needs}
 use native.Mathlib.Omega.{arith}

@@ -1,0 +1,4 @@
+pub mod Marks
+pub mod Compact
+pub mod Laws
+pub mod Unique

@@ -1,0 +1,4 @@
+pub mod Judged
+pub mod Walk
+pub mod Laws
+pub mod Unique
