@@ -3,8 +3,7 @@ use mathlib.Core.List.{[], _∷_}
 use mathlib.Core.Path.{_≡_, refl}
 use lib.ListN.{take}
 use Rattle.column.specs.declared.Found.the-variants as found
-use Rattle.column.specs.declared.Least.the-variants as least
-use Rattle.column.specs.Column.{firstRow, leastAbove}
+use Rattle.column.specs.Column.{firstRow}
 
 -- of two rows with the key the first
 the-first : firstRow 7 (5 ∷ 7 ∷ 7 ∷ []) ≡ found.At 1
@@ -17,11 +16,3 @@ past-the-end = refl
 -- a row at the count is not looked at
 at-the-count : firstRow 7 (take 2 (5 ∷ 6 ∷ 7 ∷ [])) ≡ found.Nothing
 at-the-count = refl
-
--- the bound itself is not above the bound
-above-five : leastAbove 5 (9 ∷ 5 ∷ 7 ∷ []) ≡ least.Key 7
-above-five = refl
-
--- no key above the greatest
-above-nine : leastAbove 9 (9 ∷ 5 ∷ 7 ∷ []) ≡ least.Nothing
-above-nine = refl

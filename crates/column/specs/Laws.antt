@@ -1,4 +1,4 @@
--- What the answers of `firstRow` and `leastAbove` say of a column's rows, each both ways. Assumes nothing.
+-- What the answer of `firstRow` says of a column's rows, both ways. Assumes nothing.
 use mathlib.Core.Bool.{Bool, true, false}
 use mathlib.Core.List.{List, [], _∷_}
 use mathlib.Core.Logic.{_⊎_, inl, inr, ⊎-elim}
@@ -10,8 +10,7 @@ use borrow.Author.Tests.{eqb-true, eqb-false, ltb-true, ltb-false}
 use lib.Dec.{eqb, ltb}
 use lib.ListN.{length, getD}
 use Rattle.column.specs.declared.Found.the-variants as found
-use Rattle.column.specs.declared.Least.the-variants as least
-use Rattle.column.specs.Column.{firstFrom, firstRow, leastAbove}
+use Rattle.column.specs.Column.{firstFrom, firstRow}
 
 -- row i is the first that has the key
 pub record First (k : ℕ) (xs : List ℕ) (i : ℕ) : Type 0 where
@@ -22,18 +21,6 @@ pub record First (k : ℕ) (xs : List ℕ) (i : ℕ) : Type 0 where
 -- no row has the key
 abbrev pub Absent : ℕ → List ℕ → Type 0
 Absent k xs = (j : ℕ) → j < length xs → getD xs j 0 ≡ k → ⊥
-
--- x is above the bound, stands in a row, and is at most every key above the bound
-pub record Nearest (b : ℕ) (xs : List ℕ) (x : ℕ) : Type 0 where
-  pub above : b < x
-  pub at : ℕ
-  pub row : at < length xs
-  pub key : getD xs at 0 ≡ x
-  pub least : (j : ℕ) → j < length xs → b < getD xs j 0 → x ≤ getD xs j 0
-
--- no row has a key above the bound
-abbrev pub NoneAbove : ℕ → List ℕ → Type 0
-NoneAbove b xs = (j : ℕ) → j < length xs → getD xs j 0 ≤ b
 
 -- follow a test each way
 split : {P : Type 0} (t : Bool) → (t ≡ true → P) → (t ≡ false → P) → P
@@ -98,74 +85,3 @@ nothing-absent k xs a = ⊎-elim (λ s. absurd (a (s .0) (s .2 .row) (s .2 .key)
 pub absent-nothing : (k : ℕ) (xs : List ℕ) → firstRow k xs ≡ found.Nothing → Absent k xs
 absent-nothing k xs e =
     ⊎-elim (λ s. let d = s .1 in let z : _≡_ {A = ℕ} 0 1 = cc in absurd (omega arith)) (λ s. s .1) (seen 0 k xs)
-
-module _ (b x : ℕ) (xs : List ℕ) where
-  -- the row in front has the nearest key
-  here : b < x → ((j : ℕ) → j < length xs → b < getD xs j 0 → x ≤ getD xs j 0) → Nearest b (x ∷ xs) x
-  here a l =
-      record { above = a; at = 0; row = omega arith; key = refl; least = all-rows (λ y. b < y → x ≤ y) x xs (λ h. omega arith) l }
-
-  -- a row after it has
-  later : {y : ℕ} → (b < x → y ≤ x) → Nearest b xs y → Nearest b (x ∷ xs) y
-  later {y} h w =
-      record {
-        above = w .above;
-        at = suc (w .at);
-        row = omega (arith, w .row);
-        key = w .key;
-        least = all-rows (λ z. b < z → y ≤ z) x xs h (w .least);
-      }
-
--- `leastAbove` gives one of its two answers, with what it says of the rows
-graded : (b : ℕ) (xs : List ℕ)
-    → ((x : ℕ) × (leastAbove b xs ≡ least.Key x) × Nearest b xs x) ⊎ ((leastAbove b xs ≡ least.Nothing) × NoneAbove b xs)
-graded b [] = inr (refl, λ j l. absurd (not-suc-le-zero l))
-graded b (x ∷ xs) =
-    ⊎-elim
-    (λ s.
-    let y = s .0 in
-    let w = s .2 in
-    split (ltb b x)
-    (λ t.
-    split (ltb x y)
-    (λ u. let m = ltb-true x y u in inl (x, rw (s .1, t, u), here b x xs (ltb-true b x t) (λ j l h. omega (arith, w .least j l h))))
-    (λ u. inl (y, rw (s .1, t, u), later b x xs (λ _. ltb-false x y u) w)))
-    (λ t. let m = ltb-false b x t in inl (y, rw (s .1, t), later b x xs (λ h. omega arith) w)))
-    (λ s.
-    split (ltb b x)
-    (λ t. inl (x, rw (s .0, t), here b x xs (ltb-true b x t) (λ j l h. omega (arith, s .1 j l))))
-    (λ t. inr (rw (s .0, t), all-rows (λ y. y ≤ b) x xs (ltb-false b x t) (s .1))))
-    (graded b xs)
-
--- of two nearest keys each is at most the other
-least-of : {b : ℕ} {xs : List ℕ} {x y : ℕ} → Nearest b xs x → Nearest b xs y → x ≤ y
-least-of p q = rw (q .key) at (p .least (q .at) (q .row) (rw (q .key) (q .above)))
-
--- the nearest key is the one answered
-pub key-nearest : {b : ℕ} {xs : List ℕ} {x : ℕ} → Nearest b xs x → leastAbove b xs ≡ least.Key x
-key-nearest {b} {xs} {x} w =
-    ⊎-elim
-    (λ s. s .1 ∙ ap least.Key (le-antisymm (least-of (s .2) w) (least-of w (s .2))))
-    (λ s. absurd (omega (arith, s .1 (w .at) (w .row), w .key, w .above)))
-    (graded b xs)
-
--- the key answered is the nearest
-pub nearest-key : (b : ℕ) (xs : List ℕ) {x : ℕ} → leastAbove b xs ≡ least.Key x → Nearest b xs x
-nearest-key b xs {x} e =
-    ⊎-elim
-    (λ s. let d = s .1 in let z : s .0 ≡ x = cc in rw z at (s .2))
-    (λ s. let d = s .0 in let z : _≡_ {A = ℕ} 0 1 = cc in absurd (omega arith))
-    (graded b xs)
-
--- where no row has a key above the bound, none is answered
-pub nothing-none : (b : ℕ) (xs : List ℕ) → NoneAbove b xs → leastAbove b xs ≡ least.Nothing
-nothing-none b xs a =
-    ⊎-elim
-    (λ s. let w = s .2 in absurd (omega (arith, a (w .at) (w .row), w .key, w .above)))
-    (λ s. s .0)
-    (graded b xs)
-
--- where none is answered, no row has a key above the bound
-pub none-nothing : (b : ℕ) (xs : List ℕ) → leastAbove b xs ≡ least.Nothing → NoneAbove b xs
-none-nothing b xs e =
-    ⊎-elim (λ s. let d = s .1 in let z : _≡_ {A = ℕ} 0 1 = cc in absurd (omega arith)) (λ s. s .1) (graded b xs)
