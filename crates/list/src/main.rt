@@ -1,5 +1,5 @@
-// The listing program of section 7: a journal from standard input, its listing to standard output. A Rattle program has no status of its own: where
-// a listing of records does not stand alone on standard output, one line on standard error says why, and `listing` takes its status from that.
+// The listing program of section 7: a journal from standard input, its listing to standard output. A Rattle program has no status of its own: one line
+// on standard error says how it ended, and `listing` takes its status from that. A run that says nothing has not come to its end.
 mod input;
 mod moves;
 mod output;
@@ -67,7 +67,7 @@ fn print(text: &[u8], outcome: Outcome) {
         return;
     }
     match outcome {
-        Outcome::Listed => {}
+        Outcome::Listed => say(b"listing: listed\n"),
         Outcome::Empty => say(
             b"listing: this journal has no record; a store that has taken a checkpoint has its registers in its base\n",
         ),
