@@ -4,11 +4,12 @@ use mathlib.Core.List.{List, [], _∷_}
 use mathlib.Core.Logic.{_⊎_, inl, inr, ⊎-elim}
 use mathlib.Core.Path.{_≡_, refl, ap, _∙_}
 use Prim.Native.Nat.{ℕ, zero, suc, _+_, _≤_, _<_}
-use native.Mathlib.Nat.{le-of-suc-le-suc, not-suc-le-zero, le-antisymm}
+use native.Mathlib.Nat.{le-of-suc-le-suc, not-suc-le-zero}
 use native.Mathlib.Omega.{arith}
-use borrow.Author.Tests.{eqb-true, eqb-false, ltb-true, ltb-false}
-use lib.Dec.{eqb, ltb}
+use borrow.Author.Tests.{eqb-true, eqb-false}
+use lib.Dec.{eqb}
 use lib.ListN.{length, getD}
+use Rattle.rules.specs.Bools.{split}
 use Rattle.column.specs.declared.Found.the-variants as found
 use Rattle.column.specs.Column.{firstFrom, firstRow}
 
@@ -21,11 +22,6 @@ pub record First (k : ℕ) (xs : List ℕ) (i : ℕ) : Type 0 where
 -- no row has the key
 abbrev pub Absent : ℕ → List ℕ → Type 0
 Absent k xs = (j : ℕ) → j < length xs → getD xs j 0 ≡ k → ⊥
-
--- follow a test each way
-split : {P : Type 0} (t : Bool) → (t ≡ true → P) → (t ≡ false → P) → P
-split true f g = f refl
-split false f g = g refl
 
 -- what holds of a row's key and of the keys of the n rows after it holds of all n + 1
 all-rows : (P : ℕ → Type 0) (x : ℕ) (xs : List ℕ) {n : ℕ} → P x → ((j : ℕ) → j < n → P (getD xs j 0)) → (j : ℕ) → j < suc n → P (getD (x ∷ xs) j 0)

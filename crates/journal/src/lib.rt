@@ -34,6 +34,9 @@ impl Journal {
     // How many records a journal has at the most.
     pub const RECORDS: usize = 2048;
 
+    // How many records a short journal has at the most: its calls take short columns, since to zero long ones takes longer than the call.
+    pub const FEW: usize = 64;
+
     // How many transactions run at the most.
     pub const RUNNING: usize = 8;
 

@@ -19,8 +19,8 @@ use journal::Journal;
 use journal_store::Head;
 use journal_store::Outcome;
 
-// How many base rows and records a short store has at the most.
-const FEW: usize = 64;
+// How many cells the columns of a short store have: a cell for each base row and each record, and a spare one.
+const FEW: usize = Journal::FEW;
 
 // How many base rows the lent columns have room for, at most the limit.
 fn row_room(rows: usize) -> usize

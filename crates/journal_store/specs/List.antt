@@ -97,12 +97,6 @@ module _ (h : Head) (keys values j : List ℕ) (t : ℕ) (listed contents : List
     replied : a ≡ told (listNumber h keys values j t (length listed) (length contents)) (Present (length (listOf t (meaning h keys values j))))
     replied = d ∙ ap (λ (n : ℕ). told n (Present (length (listOf t (meaning h keys values j))))) (sym (ap (λ (r : Reply). r .number) d) ∙ sym counted)
 
-    -- an accepted list has room for its rows
-    pub list-fits : eqb (a .number) 0 ≡ true → length (listOf t (meaning h keys values j)) ≤ length listed
-    list-fits e =
-        fitting (listRefusal t (meaning h keys values j)) (length (listOf t (meaning h keys values j))) (length listed)
-        (sym (ap (λ (r : Reply). r .number) d) ∙ eqb-true (a .number) 0 e) .1
-
     pub list-filled : (listed' contents' : List ℕ) → eqb (a .number) 0 ≡ true → Filled (listOf t (meaning h keys values j)) listed contents listed' contents'
         → ListedBy h keys values j t listed contents a listed' contents'
     list-filled listed' contents' e f =

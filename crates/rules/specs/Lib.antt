@@ -13,7 +13,6 @@ pub mod Passed
 pub mod Running
 pub mod Listing
 pub mod Columns
-pub mod Cuts
 pub mod KeptLaws
 pub mod RoomLaws
 pub mod Unique

@@ -93,18 +93,15 @@ fn value_by(
     v
 }
 
-// How many records a short journal has at the most.
-const FEW: usize = 64;
-
-// The value of k at t; start is the value of its base row. A short journal gets short columns: to zero long ones would take longer than the pass.
+// The value of k at t; start is the value of its base row.
 pub fn value(journal: &[u8], used: usize, start: Value, k: u32, t: u64) -> Value
     requires { ⌜ Records (now journal) used ⌝ }
     ensures { λ v. ⌜ v ≡ valueIn start k t (newest used (now (journal .entry))) ⌝ }
 {
-    if used <= FEW {
-        let mut transactions = [0u32; FEW];
-        let mut kinds = [0u8; FEW];
-        let mut amounts = [0u32; FEW];
+    if used <= Journal::FEW {
+        let mut transactions = [0u32; Journal::FEW];
+        let mut kinds = [0u8; Journal::FEW];
+        let mut amounts = [0u32; Journal::FEW];
         return value_by(
             journal,
             used,
