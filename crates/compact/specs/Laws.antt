@@ -20,6 +20,7 @@ use Rattle.record.specs.Bytes.{newest}
 use Rattle.record.specs.Laws.{Fit}
 use Rattle.record.specs.Laid.{laid, AllFit, none, more, length-laid, newest-laid, drop-more}
 use Rattle.journal.specs.Gathered.{lates, Gathered, running-held, late-held}
+use Rattle.journal.specs.Past.{low-last}
 use Rattle.walk.specs.Judged.{judged}
 use Rattle.compact.specs.Compact.{keptIn, sifted, zeroed, compacted, Moved, Compacted}
 
@@ -46,11 +47,6 @@ kept-columns T used opened late rs entry numbers other later h l =
     sifted-same (keptIn (take opened numbers) (take late later)) (λ r. isKnown r && stays T rs (r .transaction))
     (λ r. rw (running-held rs used opened entry numbers h (r .transaction), late-held rs used late other later T l (r .transaction))) T rs
     ∙ kept-sifted T rs
-
--- last is at least low
-pub low-last : (low : ℕ) (rs : List Record) → low ≤ last low rs
-low-last low [] = omega arith
-low-last low (r ∷ rs) = split (isCommit r) (λ e. rw e (omega (arith, low-last low rs))) (λ e. rw e (low-last low rs))
 
 -- a record of section 4 is of a known kind
 formed-known : (r : Record) → formed r ≡ true → isKnown r ≡ true

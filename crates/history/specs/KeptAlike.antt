@@ -17,7 +17,7 @@ use Rattle.rules.specs.Checkpoints.{heldBy, held, late, stays, known, sift, kep
 use Rattle.rules.specs.Recovery.{done}
 use Rattle.rules.specs.Bools.{split, and-left, or-left, or-none-left, or-none-right, not-both, and-false, or-false}
 use Rattle.rules.specs.Running.{not-ended, below}
-use Rattle.compact.specs.Laws.{low-last}
+use Rattle.journal.specs.Past.{low-last}
 use Rattle.history.specs.Good.{begin, update, commit, abort, Good, none, more}
 use Rattle.history.specs.Alike.{Alike}
 use Rattle.rules.specs.KeptLaws.{raised, of-kept, above-onto, running-sift, kept-all, runs-sift, of-none}

@@ -18,7 +18,7 @@ use Rattle.rules.specs.Checkpoints.{sift}
 use Rattle.rules.specs.Recovery.{done, only}
 use Rattle.rules.specs.Bools.{split, or-none, or-none-left, or-none-right, not-both, implies-false, and-false}
 use Rattle.rules.specs.Running.{not-ended, running-runs}
-use Rattle.compact.specs.Laws.{low-last}
+use Rattle.journal.specs.Past.{low-last}
 use Rattle.history.specs.Good.{begin, update, commit, abort, Good, none, more}
 use Rattle.history.specs.Alike.{Alike, alike-abort}
 use Rattle.history.specs.Kept.{Fitting, fit-more, good-sift}
