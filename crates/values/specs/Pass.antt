@@ -1,6 +1,7 @@
 -- What the value of a key asks of what is lent, and what its pass over the records carries: the key's updates so far, kept in three columns in
 -- the order of the journal. Assumes nothing.
-use mathlib.Core.Bool.{cond}
+use mathlib.Core.Path.{_≡_}
+use mathlib.Core.Bool.{false, cond}
 use mathlib.Core.List.{List}
 use Prim.Native.Nat.{ℕ, zero, suc, _*_, _≤_}
 use lib.Dec.{eqb}
@@ -12,9 +13,10 @@ use Rattle.rules.specs.declared.Effect.{Effect}
 use Rattle.rules.specs.declared.Effect.the-variants.{Assign, Add}
 use Rattle.rules.specs.Kinds.{recordBytes}
 use Rattle.rules.specs.Effects.{applied, effect, effects}
-use Rattle.rules.specs.Transactions.{of}
+use Rattle.rules.specs.Transactions.{of, wrote}
 use Rattle.rules.specs.Values.{Row, valueAt}
 use Rattle.rules.specs.Columns.{Rows}
+use Rattle.record.specs.Bytes.{newest}
 use Rattle.column.specs.declared.Found.{Found}
 use Rattle.column.specs.declared.Found.the-variants.{At, Nothing}
 
@@ -31,6 +33,11 @@ pub record Records (journal : List ℕ) (used : ℕ) : Type 0 where
 pub record Lent (keys values : List ℕ) (rows : ℕ) (journal : List ℕ) (used : ℕ) : Type 0 where
   pub base : Rows keys values rows
   pub records : Records journal used
+
+-- no record before this place writes the key
+pub record Unwritten (journal : List ℕ) (used k i : ℕ) : Type 0 where
+  pub within : i ≤ used
+  pub before : wrote k (newest i journal) ≡ false
 
 -- so many kept updates stand in their three columns: transaction, kind and amount
 pub record Kept (transactions kinds amounts : List ℕ) (count : ℕ) : Type 0 where

@@ -1,19 +1,20 @@
 -- The laws by which the pass goes on: what a kept update, a record passed over and a found row come to. Assumes nothing.
-use mathlib.Core.Path.{_≡_, refl}
-use mathlib.Core.Bool.{true, false}
+use mathlib.Core.Path.{_≡_, refl, _∙_}
+use mathlib.Core.Bool.{true, false, _&&_}
 use mathlib.Core.List.{List, [], _∷_}
 use Prim.Native.Nat.{ℕ, zero, suc, _+_, _<_, _≤_}
 use native.Mathlib.Numerals.{add-one}
 use native.Mathlib.Omega.{arith}
-use lib.Dec.{eqb}
+use lib.Dec.{eqb, leb}
 use lib.ListN.{length, set, drop}
 use lib.Seq.{getD-set-same, getD-set-other, drop-cons}
 use Rattle.rules.specs.declared.Record.{Record}
 use Rattle.rules.specs.declared.Value.{Value}
-use Rattle.rules.specs.Bools.{split}
+use Rattle.rules.specs.Bools.{split, or-none-left, or-none-right}
+use Rattle.rules.specs.Kinds.{isCommit}
 use Rattle.rules.specs.Effects.{writes, effects}
-use Rattle.rules.specs.Transactions.{of, snapshot}
-use Rattle.rules.specs.Values.{Row, rowValue, readIn}
+use Rattle.rules.specs.Transactions.{of, wrote, snapshot}
+use Rattle.rules.specs.Values.{Row, rowValue, value, readIn}
 use Rattle.rules.specs.Columns.{rowsOf}
 use Rattle.column.specs.Column.{firstFrom, firstRow}
 use Rattle.values.specs.Pass.{keptStep, keptEffects, ownStep, readFrom, foundValue}
@@ -56,6 +57,21 @@ module _ (k n : ℕ) (r : Record) (rs : List Record) (v : Value) where
   -- any other record does nothing to the key
   pub effects-none : writes k r ≡ false → effects k (of n (r ∷ rs)) v ≡ effects k (of n rs) v
   effects-none w = split (eqb (r .transaction) n) (λ e. rw (e, w)) (λ e. rw e)
+
+-- records that do not write a key do nothing to it
+pub effects-unwritten : (k n : ℕ) (rs : List Record) (v : Value) → wrote k rs ≡ false → effects k (of n rs) v ≡ v
+effects-unwritten k n [] v h = refl
+effects-unwritten k n (r ∷ rs) v h =
+    effects-none k n r rs v (or-none-left (writes k r) (wrote k rs) h) ∙ effects-unwritten k n rs v (or-none-right (writes k r) (wrote k rs) h)
+
+-- so that its value is where it started
+pub value-unwritten : (start : Value) (k t : ℕ) (rs : List Record) → wrote k rs ≡ false → value start k t rs ≡ start
+value-unwritten start k t [] h = refl
+value-unwritten start k t (r ∷ rs) h =
+    let older = or-none-right (writes k r) (wrote k rs) h in
+    split (isCommit r && leb (r .time) t)
+    (λ e. rw (e, effects-unwritten k (r .transaction) rs (value start k t rs) older) (value-unwritten start k t rs older))
+    (λ e. rw e (value-unwritten start k t rs older))
 
 -- read from its snapshot, a transaction's value is that of rule 3.5
 pub read-snapshot : (base : List Row) (rs : List Record) (n k : ℕ) → readFrom base rs n (snapshot n rs) k ≡ readIn base rs n k

@@ -9,7 +9,7 @@ ghost use Rattle.rules.specs.Transactions.{of};
 ghost use Rattle.rules.specs.Values.{rowValue, valueAt, value as valueIn};
 ghost use Rattle.rules.specs.Columns.{firstRows, Rows};
 ghost use Rattle.record.specs.Bytes.{newest};
-ghost use Rattle.values.specs.Pass.{Records, Lent, Kept, ownStep, keptStep, keptEffects, readFrom};
+ghost use Rattle.values.specs.Pass.{Records, Lent, Kept, Unwritten, ownStep, keptStep, keptEffects, readFrom};
 use column::Found;
 use journal::Journal;
 use rules::Effect;
@@ -60,6 +60,21 @@ fn kept_effects(
     v
 }
 
+// Where the key's first update stands, or used: what commits before it changes nothing of the key.
+fn first_update(journal: &[u8], used: usize, k: u32) -> usize
+    requires { ⌜ used * recordBytes ≤ length (now journal) ⌝ }
+    ensures { λ i. ⌜ Unwritten (now (journal .entry)) used k i ⌝ }
+{
+    let mut i = 0;
+    while i < used {
+        if writes(record::read(journal, i), k) {
+            return i;
+        }
+        i += 1;
+    }
+    i
+}
+
 // The value of k at t, with three columns for the key's updates.
 fn value_by(
     journal: &[u8],
@@ -76,7 +91,7 @@ fn value_by(
 {
     let mut n = 0;
     let mut v = start;
-    let mut i = 0;
+    let mut i = first_update(journal, used, k);
     while i < used {
         let r = record::read(journal, i);
         if r.settles(t) {

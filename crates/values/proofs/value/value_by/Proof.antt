@@ -20,7 +20,7 @@ use Rattle.rules.specs.Values.{settle, value}
 use Rattle.record.specs.Bytes.{newest, recordAt}
 use Rattle.record.specs.Walks.{finish}
 use Rattle.values.specs.Pass.{keptStep, keptEffects}
-use Rattle.values.specs.PassLaws.{kept-more, effects-more, effects-none}
+use Rattle.values.specs.PassLaws.{kept-more, effects-more, effects-none, effects-unwritten, value-unwritten}
 use Rattle.values.proofs.value.value_by.Statement.{statement}
 use Rattle.values.proofs.value.value_by.Tie as tie
 
@@ -73,18 +73,24 @@ Inv-loop journal used k t transactions₀ kinds₀ amounts₀ n₀ v₀ i₀ tra
 abbrev μ-loop : tie.MeasureT-loop
 μ-loop journal used k t transactions₀ kinds₀ amounts₀ n₀ v₀ i₀ transactions kinds amounts n v i = used - i
 
+first-update-requires : tie.Need-first-update-requires Inv-loop μ-loop
+first-update-requires c κs = search needs
+
 loop-holds : tie.Need-loop-holds Inv-loop μ-loop
-loop-holds c = (
-  omega arith,
-  record {
-    few = omega arith;
-    transactions-room = refl;
-    kinds-room = refl;
-    amounts-room = refl;
-    does = λ m x. refl;
-    is = refl;
-  },
-)
+loop-holds c =
+    let a = c .before .before .before .before .before .args in
+    let none = c .first-update .ensures .before in
+    let front = newest (c .first-update .result) (now (a .journal)) in (
+      c .first-update .ensures .within,
+      record {
+        few = omega arith;
+        transactions-room = refl;
+        kinds-room = refl;
+        amounts-room = refl;
+        does = λ m x. sym (effects-unwritten (a .k) m front x none);
+        is = sym (value-unwritten (a .start) (a .k) (a .t) front none);
+      },
+    )
 
 read-requires : tie.Need-read-requires Inv-loop μ-loop
 read-requires c κs = search needs
@@ -126,7 +132,7 @@ loop-again : tie.Need-loop-again Inv-loop μ-loop
 loop-again c =
     let j1 = c .before .before in
     let l = j1 .before .before .before .before .loop in
-    let q = j1 .before .before .before .before .before .before .before .before .before in
+    let q = j1 .before .before .before .before .before .before .before .before .before .before in
     let a = q .args in
     let y = l .inv .1 in
     let e = j1 .before .before .read .ensures in
@@ -170,7 +176,7 @@ same-length-3 c = c .before .loop .inv .1 .amounts-room
 returns : tie.Need-returns Inv-loop μ-loop
 returns c =
     let l = c .before .loop in
-    let a = c .before .before .before .before .before .before .args in
+    let a = c .before .before .before .before .before .before .before .args in
     finish (value (a .start) (a .k) (a .t)) (now (a .journal)) (l .i) (a .used) _ (l .inv .1 .is) (omega arith)
 
 pub value-by-spec : {M : Type 1} → statement M
@@ -179,6 +185,7 @@ value-by-spec =
     (tie.spec
     Inv-loop
     μ-loop
+    first-update-requires
     loop-holds
     read-requires
     settles-requires
