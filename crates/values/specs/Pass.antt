@@ -12,13 +12,14 @@ use Rattle.rules.specs.declared.Value.the-variants.{Absent, Present}
 use Rattle.rules.specs.declared.Effect.{Effect}
 use Rattle.rules.specs.declared.Effect.the-variants.{Assign, Add}
 use Rattle.rules.specs.Kinds.{recordBytes}
-use Rattle.rules.specs.Effects.{applied, effect, effects}
+use Rattle.rules.specs.Effects.{applied, effects}
 use Rattle.rules.specs.Transactions.{of, wrote}
-use Rattle.rules.specs.Values.{Row, valueAt}
+use Rattle.rules.specs.Values.{Row, value, valueAt}
 use Rattle.rules.specs.Columns.{Rows}
 use Rattle.record.specs.Bytes.{newest}
 use Rattle.column.specs.declared.Found.{Found}
 use Rattle.column.specs.declared.Found.the-variants.{At, Nothing}
+use Rattle.values.specs.declared.value.Settled.{Settled}
 
 -- section 2: at most so many journal records
 abbrev pub mostRecords : ℕ
@@ -59,9 +60,20 @@ keptEffects transactions kinds amounts n zero old = old
 keptEffects transactions kinds amounts n (suc i) old =
     keptStep (getD transactions i 0) (getD kinds i 0) (getD amounts i 0) n (keptEffects transactions kinds amounts n i old)
 
--- what a record makes of the value of a key where it is the transaction's
-abbrev pub ownStep : ℕ → ℕ → Record → Value → Value
-ownStep n k r old = cond (eqb (r .transaction) n) (effect k r old) old
+-- the kept updates do what the records do to the key, for each transaction
+abbrev pub Does : ℕ → List Record → List ℕ → List ℕ → List ℕ → ℕ → Type 0
+Does k rs transactions kinds amounts count =
+    (n : ℕ) (old : Value) → keptEffects transactions kinds amounts n count old ≡ effects k (of n rs) old
+
+-- what a pass over the records comes to
+pub record Settles (start : Value) (k t : ℕ) (rs : List Record) (transactions kinds amounts : List ℕ) (s : Settled) : Type 0 where
+  pub is : s .value ≡ value start k t rs
+  pub kept : Kept transactions kinds amounts (s .count)
+  pub does : Does k rs transactions kinds amounts (s .count)
+
+-- a read of k in transaction n from a snapshot, where the value of k's base row is start
+abbrev pub readOn : Value → List Record → ℕ → ℕ → ℕ → Value
+readOn start rs n snapshot k = effects k (of n rs) (value start k snapshot rs)
 
 -- a read of k in transaction n from a snapshot: the value at it, then the transaction's own effects on k in order
 abbrev pub readFrom : List Row → List Record → ℕ → ℕ → ℕ → Value

@@ -17,7 +17,7 @@ use Rattle.rules.specs.Transactions.{of, wrote, snapshot}
 use Rattle.rules.specs.Values.{Row, rowValue, value, readIn}
 use Rattle.rules.specs.Columns.{rowsOf}
 use Rattle.column.specs.Column.{firstFrom, firstRow}
-use Rattle.values.specs.Pass.{keptStep, keptEffects, ownStep, readFrom, foundValue}
+use Rattle.values.specs.Pass.{keptStep, keptEffects, readFrom, foundValue}
 
 module _ (transactions kinds amounts : List ℕ) (at a b d n : ℕ) (old : Value) where
   -- an update kept behind the others changes nothing of what they do
@@ -46,10 +46,6 @@ module _ (transactions kinds amounts : List ℕ) (at a b d n : ℕ) (old : Value
       )
 
 module _ (k n : ℕ) (r : Record) (rs : List Record) (v : Value) where
-  -- one record more in the effects of a transaction on a key
-  pub own-more : ownStep n k r (effects k (of n rs) v) ≡ effects k (of n (r ∷ rs)) v
-  own-more = split (eqb (r .transaction) n) (λ e. rw e) (λ e. rw e)
-
   -- an update of the key does what it does once it is kept
   pub effects-more : writes k r ≡ true → effects k (of n (r ∷ rs)) v ≡ keptStep (r .transaction) (r .kind) (r .value) n (effects k (of n rs) v)
   effects-more w = split (eqb (r .transaction) n) (λ e. rw (e, w)) (λ e. rw e)

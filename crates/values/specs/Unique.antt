@@ -3,8 +3,6 @@ use mathlib.Core.Path.{_≡_, sym, _∙_}
 use mathlib.Core.List.{List}
 use Prim.Native.Nat.{ℕ}
 use Rattle.rules.specs.declared.Value.{Value}
-use Rattle.rules.specs.Effects.{effects}
-use Rattle.rules.specs.Transactions.{of}
 use Rattle.rules.specs.Values.{rowValue, valueAt, value}
 use Rattle.rules.specs.Columns.{firstRows}
 use Rattle.record.specs.Bytes.{newest}
@@ -13,10 +11,6 @@ use Rattle.values.specs.Pass.{readFrom}
 module _ (journal : List ℕ) (used : ℕ) where
   pub value-unique : (start : Value) (k t : ℕ) {v w : Value} → v ≡ value start k t (newest used journal) → w ≡ value start k t (newest used journal) → v ≡ w
   value-unique start k t p q = p ∙ sym q
-
-  pub own-effects-unique : (n k : ℕ) (old : Value) {v w : Value} → v ≡ effects k (of n (newest used journal)) old
-      → w ≡ effects k (of n (newest used journal)) old → v ≡ w
-  own-effects-unique n k old p q = p ∙ sym q
 
 module _ (keys values : List ℕ) (rows : ℕ) where
   pub base-value-unique : (k : ℕ) {v w : Value} → v ≡ rowValue (firstRows rows keys values) k → w ≡ rowValue (firstRows rows keys values) k → v ≡ w

@@ -4,12 +4,11 @@ ghost use mathlib.Core.Path.{_≡_};
 ghost use Prim.Native.Nat.{_*_, _≤_};
 ghost use lib.ListN.{length};
 ghost use Rattle.rules.specs.Kinds.{recordBytes};
-ghost use Rattle.rules.specs.Effects.{writes as writesTo, effects};
-ghost use Rattle.rules.specs.Transactions.{of};
+ghost use Rattle.rules.specs.Effects.{writes as writesTo};
 ghost use Rattle.rules.specs.Values.{rowValue, valueAt, value as valueIn};
 ghost use Rattle.rules.specs.Columns.{firstRows, Rows};
 ghost use Rattle.record.specs.Bytes.{newest};
-ghost use Rattle.values.specs.Pass.{Records, Lent, Kept, Unwritten, ownStep, keptStep, keptEffects, readFrom};
+ghost use Rattle.values.specs.Pass.{Records, Lent, Kept, Unwritten, keptStep, keptEffects, Settles, readOn, readFrom};
 use column::Found;
 use journal::Journal;
 use rules::Effect;
@@ -75,8 +74,14 @@ fn first_update(journal: &[u8], used: usize, k: u32) -> usize
     i
 }
 
-// The value of k at t, with three columns for the key's updates.
-fn value_by(
+// What a pass comes to: the value, and how many updates of the key it kept.
+struct Settled {
+    value: Value,
+    count: usize,
+}
+
+// The value of k at t. All updates of the key stay behind in three columns.
+fn settle(
     journal: &[u8],
     used: usize,
     start: Value,
@@ -85,9 +90,9 @@ fn value_by(
     transactions: &mut [u32],
     kinds: &mut [u8],
     amounts: &mut [u32],
-) -> Value
+) -> Settled
     requires { ⌜ Records (now journal) used × Kept (now transactions) (now kinds) (now amounts) used ⌝ }
-    ensures { λ v. ⌜ v ≡ valueIn start k t (newest used (now (journal .entry))) ⌝ }
+    ensures { λ s. ⌜ Settles start k t (newest used (now (journal .entry))) (now (transactions .exit)) (now (kinds .exit)) (now (amounts .exit)) s ⌝ }
 {
     let mut n = 0;
     let mut v = start;
@@ -105,7 +110,7 @@ fn value_by(
         }
         i += 1;
     }
-    v
+    Settled { value: v, count: n }
 }
 
 // The value of k at t; start is the value of its base row.
@@ -117,7 +122,7 @@ pub fn value(journal: &[u8], used: usize, start: Value, k: u32, t: u64) -> Value
         let mut transactions = [0u32; Journal::FEW];
         let mut kinds = [0u8; Journal::FEW];
         let mut amounts = [0u32; Journal::FEW];
-        return value_by(
+        let s = settle(
             journal,
             used,
             start,
@@ -127,11 +132,12 @@ pub fn value(journal: &[u8], used: usize, start: Value, k: u32, t: u64) -> Value
             &mut kinds,
             &mut amounts,
         );
+        return s.value;
     }
     let mut transactions = [0u32; Journal::RECORDS];
     let mut kinds = [0u8; Journal::RECORDS];
     let mut amounts = [0u32; Journal::RECORDS];
-    value_by(
+    let s = settle(
         journal,
         used,
         start,
@@ -140,34 +146,74 @@ pub fn value(journal: &[u8], used: usize, start: Value, k: u32, t: u64) -> Value
         &mut transactions,
         &mut kinds,
         &mut amounts,
+    );
+    s.value
+}
+
+// A read of k in transaction n, with three columns for the key's updates: its own are applied out of those kept.
+fn read_by(
+    journal: &[u8],
+    used: usize,
+    start: Value,
+    n: u32,
+    snapshot: u64,
+    k: u32,
+    transactions: &mut [u32],
+    kinds: &mut [u8],
+    amounts: &mut [u32],
+) -> Value
+    requires { ⌜ Records (now journal) used × Kept (now transactions) (now kinds) (now amounts) used ⌝ }
+    ensures { λ v. ⌜ v ≡ readOn start (newest used (now (journal .entry))) n snapshot k ⌝ }
+{
+    let s = settle(
+        journal,
+        used,
+        start,
+        k,
+        snapshot,
+        transactions,
+        kinds,
+        amounts,
+    );
+    let v = s.value;
+    kept_effects(transactions, kinds, amounts, s.count, n, v)
+}
+
+// A read of k in transaction n; start is the value of its base row.
+fn read(journal: &[u8], used: usize, start: Value, n: u32, snapshot: u64, k: u32) -> Value
+    requires { ⌜ Records (now journal) used ⌝ }
+    ensures { λ v. ⌜ v ≡ readOn start (newest used (now (journal .entry))) n snapshot k ⌝ }
+{
+    if used <= Journal::FEW {
+        let mut transactions = [0u32; Journal::FEW];
+        let mut kinds = [0u8; Journal::FEW];
+        let mut amounts = [0u32; Journal::FEW];
+        return read_by(
+            journal,
+            used,
+            start,
+            n,
+            snapshot,
+            k,
+            &mut transactions,
+            &mut kinds,
+            &mut amounts,
+        );
+    }
+    let mut transactions = [0u32; Journal::RECORDS];
+    let mut kinds = [0u8; Journal::RECORDS];
+    let mut amounts = [0u32; Journal::RECORDS];
+    read_by(
+        journal,
+        used,
+        start,
+        n,
+        snapshot,
+        k,
+        &mut transactions,
+        &mut kinds,
+        &mut amounts,
     )
-}
-
-// One record more: its effect on the key where it is the transaction's.
-fn own_step(r: Record, n: u32, k: u32, old: Value) -> Value
-    ensures { λ v. ⌜ v ≡ ownStep n k r old ⌝ }
-{
-    if r.transaction != n {
-        return old;
-    }
-    if writes(r, k) {
-        return rules::apply(r.effect(), old);
-    }
-    old
-}
-
-// What the effects of transaction n on k make of a value, in their order.
-pub fn own_effects(journal: &[u8], used: usize, n: u32, k: u32, old: Value) -> Value
-    requires { ⌜ used * recordBytes ≤ length (now journal) ⌝ }
-    ensures { λ v. ⌜ v ≡ effects k (of n (newest used (now (journal .entry)))) old ⌝ }
-{
-    let mut v = old;
-    let mut i = 0;
-    while i < used {
-        v = own_step(record::read(journal, i), n, k, v);
-        i += 1;
-    }
-    v
 }
 
 // The value of k's base row, or absent.
@@ -212,6 +258,6 @@ pub fn read_in(
     requires { ⌜ Lent (now keys) (now values) rows (now journal) used ⌝ }
     ensures { λ v. ⌜ v ≡ readFrom (firstRows rows (now (keys .entry)) (now (values .entry))) (newest used (now (journal .entry))) n snapshot k ⌝ }
 {
-    let v = value_at(keys, values, rows, journal, used, k, snapshot);
-    own_effects(journal, used, n, k, v)
+    let start = base_value(keys, values, rows, k);
+    read(journal, used, start, n, snapshot, k)
 }

@@ -1,4 +1,4 @@
--- `values::value::value_by` meets its contract. The loop's invariant says what the kept updates do and not what they hold: for every transaction they do
+-- `values::value::settle` meets its contract. The loop's invariant says what the kept updates do and not what they hold: for every transaction they do
 -- what the first i records do to the key; and v is the value of the first i records. The measure is how many are left. Assumes nothing.
 use mathlib.Core.Path.{_≡_, refl, sym, _∙_}
 use mathlib.Core.Bool.{true, false, _&&_}
@@ -18,16 +18,11 @@ use Rattle.rules.specs.Effects.{effects, writes}
 use Rattle.rules.specs.Transactions.{of}
 use Rattle.rules.specs.Values.{settle, value}
 use Rattle.record.specs.Bytes.{newest, recordAt}
-use Rattle.record.specs.Walks.{finish}
-use Rattle.values.specs.Pass.{keptStep, keptEffects}
+use Rattle.record.specs.Walks.{finish, arrived}
+use Rattle.values.specs.Pass.{keptStep, keptEffects, Does}
 use Rattle.values.specs.PassLaws.{kept-more, effects-more, effects-none, effects-unwritten, value-unwritten}
-use Rattle.values.proofs.value.value_by.Statement.{statement}
-use Rattle.values.proofs.value.value_by.Tie as tie
-
--- the kept updates do what the records do to the key
-abbrev Does : ℕ → List Record → List ℕ → List ℕ → List ℕ → ℕ → Type 0
-Does k rs transactions kinds amounts n =
-    (m : ℕ) (x : Value) → keptEffects transactions kinds amounts m n x ≡ effects k (of m rs) x
+use Rattle.values.proofs.value.settle.Statement.{statement}
+use Rattle.values.proofs.value.settle.Tie as tie
 
 -- before the record at i
 record Pass (j : List ℕ) (start : Value) (k t i : ℕ) (transactions₀ kinds₀ amounts₀ transactions kinds amounts : List ℕ) (n : ℕ) (v : Value) : Type 0 where
@@ -176,11 +171,24 @@ same-length-3 c = c .before .loop .inv .1 .amounts-room
 returns : tie.Need-returns Inv-loop μ-loop
 returns c =
     let l = c .before .loop in
-    let a = c .before .before .before .before .before .before .before .args in
-    finish (value (a .start) (a .k) (a .t)) (now (a .journal)) (l .i) (a .used) _ (l .inv .1 .is) (omega arith)
+    let y = l .inv .1 in
+    let q = c .before .before .before .before .before .before .before in
+    let a = q .args in
+    let j = now (a .journal) in
+    let end : l .i ≡ a .used = omega arith in
+    record {
+      is = finish (value (a .start) (a .k) (a .t)) j (l .i) (a .used) _ (y .is) end;
+      kept =
+          record {
+            in-transactions = omega (arith, y .few, y .transactions-room, q .pre .1 .in-transactions);
+            in-kinds = omega (arith, y .few, y .kinds-room, q .pre .1 .in-kinds);
+            in-amounts = omega (arith, y .few, y .amounts-room, q .pre .1 .in-amounts);
+          };
+      does = arrived (λ (rs : List Record). Does (a .k) rs (l .transactions) (l .kinds) (l .amounts) (l .n)) j (l .i) (a .used) (y .does) end;
+    }
 
-pub value-by-spec : {M : Type 1} → statement M
-value-by-spec =
+pub settle-spec : {M : Type 1} → statement M
+settle-spec =
     tie.close
     (tie.spec
     Inv-loop

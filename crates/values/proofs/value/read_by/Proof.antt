@@ -1,0 +1,42 @@
+-- `values::value::read_by` meets its contract: for the reader too the kept updates do what all records do. Assumes nothing.
+use mathlib.Core.Path.{ap, _∙_}
+use borrow.Author.Needs.{needs}
+use denote.Ref.{now}
+use Rattle.rules.specs.Effects.{effects}
+use Rattle.rules.specs.Transactions.{of}
+use Rattle.record.specs.Bytes.{newest}
+use Rattle.values.proofs.value.read_by.Statement.{statement}
+use Rattle.values.proofs.value.read_by.Tie as tie
+
+settle-requires : tie.Need-settle-requires
+settle-requires c κs = search needs
+
+kept-effects-requires : tie.Need-kept-effects-requires
+kept-effects-requires c κs = search needs
+
+same-length : tie.Need-same-length
+same-length c = search needs
+
+same-length-2 : tie.Need-same-length-2
+same-length-2 c = search needs
+
+same-length-3 : tie.Need-same-length-3
+same-length-3 c = search needs
+
+returns : tie.Need-returns
+returns c =
+    let p = c .before .before .before .before .before .before .before .before .before .before in
+    let a = p .before .before .before .before .before .before .before .before .args in
+    let s = p .settle .ensures in
+    c .kept-effects .ensures ∙ s .does (a .n) _ ∙ ap (effects (a .k) (of (a .n) (newest (a .used) (now (a .journal))))) (s .is)
+
+pub read-by-spec : {M : Type 1} → statement M
+read-by-spec =
+    tie.close
+    (tie.spec
+    settle-requires
+    kept-effects-requires
+    same-length
+    same-length-2
+    same-length-3
+    returns)
