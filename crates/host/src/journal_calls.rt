@@ -194,5 +194,5 @@ pub extern "C" fn registers_journal_recover(
 ) -> JournalOutcome
     ensures { λ r. ⌜ JournalReturns (λ a head. Recovered h (now (keys .entry)) (now (values .entry)) (now (journal .entry)) survived a head (now (journal .exit))) r ⌝ }
 {
-    ended(journal_store::recover::recover(h, keys, values, journal, survived))
+    ended(journal_recovery::recover(h, keys, values, journal, survived))
 }

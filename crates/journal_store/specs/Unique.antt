@@ -1,4 +1,4 @@
--- No second answer satisfies the contract of a public function of this crate: not another answer, head or cell. Assumes nothing.
+-- No second answer satisfies the contract of a public function of the journal store: not another answer, head or cell. Assumes nothing.
 use mathlib.Core.Path.{_≡_, sym, ap, _∙_}
 use mathlib.Core.Bool.{Bool}
 use mathlib.Core.List.{List}

@@ -18,7 +18,6 @@ pub mod begin;
 pub mod commit;
 pub mod lookup;
 pub mod read;
-pub mod recover;
 pub mod update;
 
 // The journal head: low, floor, how many base rows and how many journal records are used.

@@ -123,7 +123,7 @@ pub fn report(journal: &mut [u8], survived: usize, out: &mut [u8]) -> usize
     ensures { λ r. ⌜ Reported (now (journal .entry)) survived (now (out .entry)) r (now (journal .exit)) (now (out .exit)) ⌝ }
 {
     let none = [0u32; 1];
-    let outcome = journal_store::recover::recover(Head::empty(), &none, &none, journal, survived);
+    let outcome = journal_recovery::recover(Head::empty(), &none, &none, journal, survived);
     let answer = outcome.answer;
     match answer {
         Done::Refused(refusal) => refused(out, refusal),

@@ -1,4 +1,4 @@
--- `journal_store::recover::recover` meets its contract: the shape test, the walk, and where it accepts the records that stay. Assumes nothing.
+-- `journal_recovery::recover` meets its contract: the shape test, the walk, and where it accepts the records that stay. Assumes nothing.
 use mathlib.Core.Path.{_≡_, sym, ap, _∙_}
 use mathlib.Core.Bool.{true}
 use Prim.Native.Nat.{_*_, _≤_, _/_}
@@ -6,12 +6,12 @@ use borrow.Author.Tests.{not-true, not-false}
 use lib.ListN.{length}
 use Rattle.rules.specs.Recovery.{accepts}
 use Rattle.walk.specs.Judged.{walk-whole}
 use Rattle.journal_store.specs.Recover.{surviving, recoverable, recover-bad, recover-refused, recover-done}
 use borrow.Author.Needs.{needs}
 use native.Mathlib.Omega.{arith}
 use denote.Ref.{now}
-use Rattle.journal_store.proofs.recover.recover.Statement.{statement}
-use Rattle.journal_store.proofs.recover.recover.Tie as tie
+use Rattle.journal_recovery.proofs.recover.Statement.{statement}
+use Rattle.journal_recovery.proofs.recover.Tie as tie
 
 shaped-requires : tie.Need-shaped-requires
 shaped-requires c κs = search needs

@@ -1,15 +1,15 @@
-// Recover: the store as its surviving bytes tell it, after a restart. Refusals 1, 13.
+// The journal store's recovery: the store as its surviving bytes tell it, after a restart. Refusals 1, 13.
 ghost use mathlib.Core.Path.{_≡_};
 ghost use Prim.Native.Nat.{_≤_};
 ghost use lib.ListN.{length, take};
 ghost use Rattle.answer.specs.Reply.{ofDone};
 ghost use Rattle.journal_store.specs.Recover.{risingKeys, isRecoverable, Recovered};
-use crate::Head;
-use crate::Outcome;
 use answer::Done;
 use answer::Refusal;
 use journal::Base;
 use journal::Journal;
+use journal_store::Head;
+use journal_store::Outcome;
 use rules::Record;
 use rules::Walked;
 

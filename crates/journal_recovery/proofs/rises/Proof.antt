@@ -1,4 +1,4 @@
--- `journal_store::recover::rises` meets its contract. The loop's invariant: the keys rise exactly if those that are left rise above the last one passed.
+-- `journal_recovery::rises` meets its contract. The loop's invariant: the keys rise exactly if those that are left rise above the last one passed.
 -- Assumes nothing.
 use mathlib.Core.Path.{_≡_, refl, sym, ap, _∙_}
 use mathlib.Core.Bool.{true, false, _&&_}
@@ -9,12 +9,12 @@ use borrow.Author.Tests.{lt-ltb, le-ltb}
 use lib.Dec.{ltb}
 use lib.ListN.{length, take, drop, getD, drop-of-length-le}
 use lib.Seq.{drop-cons, getD-take, length-take-le}
 use Rattle.journal_store.specs.Recover.{risingKeys}
 use borrow.Author.Needs.{needs}
 use native.Mathlib.Omega.{arith}
 use denote.Ref.{now}
-use Rattle.journal_store.proofs.recover.rises.Statement.{statement}
-use Rattle.journal_store.proofs.recover.rises.Tie as tie
+use Rattle.journal_recovery.proofs.rises.Statement.{statement}
+use Rattle.journal_recovery.proofs.rises.Tie as tie
 
 module _ (keys : List ℕ) (rows i before : ℕ) (l : i < rows) (f : rows ≤ length keys) where
   next : risingKeys before (drop i (take rows keys)) ≡ (ltb before (getD keys i 0) && risingKeys (getD keys i 0) (drop (i + 1) (take rows keys)))

@@ -1,8 +1,8 @@
--- `journal_store::recover::shaped` meets its contract: the tests are the definition's, one after the other. Assumes nothing.
+-- `journal_recovery::shaped` meets its contract: the tests are the definition's, one after the other. Assumes nothing.
 use borrow.Author.Tests.{eq-eqb, ne-eqb, le-leb, lt-leb}
 use borrow.Author.Needs.{needs}
-use Rattle.journal_store.proofs.recover.shaped.Statement.{statement}
-use Rattle.journal_store.proofs.recover.shaped.Tie as tie
+use Rattle.journal_recovery.proofs.shaped.Statement.{statement}
+use Rattle.journal_recovery.proofs.shaped.Tie as tie
 
 returns : tie.Need-returns
 returns c = rw (lt-leb _ _ (c .if1 .taken))
