@@ -162,7 +162,7 @@ pub extern "C" fn registers_map_list(
 ) -> Answer
     ensures { λ r. ⌜ Answers (λ a. ListedAt t h (now (keys .entry)) (now (times .entry)) (now (values .entry)) (now (listed .entry)) (now (contents .entry)) a (now (listed .exit)) (now (contents .exit))) r ⌝ }
 {
-    crate::listed(map_store::list::list(h, keys, times, values, t, listed, contents))
+    crate::listed(map_list::list(h, keys, times, values, t, listed, contents))
 }
 
 // Low becomes t; kept are the versions after t and, for each key, its newest at or before t. Refusals 1, 4, 5, 9.

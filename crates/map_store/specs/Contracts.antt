@@ -9,7 +9,7 @@ use Rattle.rules.specs.declared.Value.the-variants.{Absent, Present}
 use Rattle.rules.specs.Values.{Row}
 use Rattle.rules.specs.Lists.{rowKeys}
 use Rattle.rules.specs.Columns.{rowValues}
-use Rattle.rules.specs.Calls.{Call, Commit, withRoom}
+use Rattle.rules.specs.Calls.{Call, Commit}
 use Rattle.answer.specs.Reply.{Reply, told, after}
 use Rattle.slot.specs.Slots.{slotOf}
 use Rattle.versions.specs.Versions.{versionsOf, valueAt, keptFrom, listAt}
@@ -86,16 +86,6 @@ pub record Put (n t : ℕ) (h : MapHead) (ks ts vs : List ℕ) (accepted : Bool)
   pub keys : ks' ≡ cond accepted (written (h .used) (λ r. r .key) (rowsIn (h .slots) (slotOf (h .slots) n)) ks) ks
   pub times : ts' ≡ cond accepted (written (h .used) (λ r. t) (rowsIn (h .slots) (slotOf (h .slots) n)) ts) ts
   pub values : vs' ≡ cond accepted (written (h .used) (λ r. r .value) (rowsIn (h .slots) (slotOf (h .slots) n)) vs) vs
-
--- a list in front of what stood in two columns, if it was accepted
-pub record Written (rows : List Row) (oks ovs : List ℕ) (accepted : Bool) (oks' ovs' : List ℕ) : Type 0 where
-  pub keys : oks' ≡ cond accepted (rowKeys rows ++ drop (length rows) oks) oks
-  pub values : ovs' ≡ cond accepted (rowValues rows ++ drop (length rows) ovs) ovs
-
--- list, where the shape and the time are good: the rows are counted, and written where there is room for them
-pub record ListedIn (rows : List Row) (oks ovs : List ℕ) (a : Reply) (oks' ovs' : List ℕ) : Type 0 where
-  pub reply : a ≡ told (withRoom 0 (length rows) (length oks)) (Present (length rows))
-  pub written : Written rows oks ovs (eqb (a .number) 0) oks' ovs'
 
 -- what a checkpoint that is accepted or not makes of the head and the columns
 pub record Thinned (t : ℕ) (h : MapHead) (ks ts vs : List ℕ) (accepted : Bool) (head : MapHead) (ks' ts' vs' : List ℕ) : Type 0 where

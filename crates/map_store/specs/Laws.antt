@@ -9,8 +9,7 @@ use lib.Dec.{eqb}
 use lib.ListN.{length}
 use borrow.Author.Tests.{eqb-true}
 use Rattle.rules.specs.declared.Value.{Value}
-use Rattle.rules.specs.declared.Value.the-variants.{Absent, Present}
-use Rattle.rules.specs.Passed.{fitting}
+use Rattle.rules.specs.declared.Value.the-variants.{Absent}
 use Rattle.rules.specs.Calls.{Call, Begin, Commit}
 use Rattle.answer.specs.declared.Refusal.{Refusal}
 use Rattle.answer.specs.declared.Refusal.the-variants.{BadShape}
@@ -25,16 +24,15 @@ use Rattle.slot.specs.Formed.{Formed, Rowed}
 use Rattle.slot.specs.Laws.{first-slot}
 use Rattle.slot.specs.Places.{free, placeOf, placeIn, placesOf, takenBy}
 use Rattle.slot.specs.PlaceLaws.{place-slot}
-use Rattle.versions.specs.Versions.{versionsOf, listAt}
+use Rattle.versions.specs.Versions.{versionsOf}
 use Rattle.versions.specs.Columns.{Lent, Kept}
-use Rattle.versions.specs.Laws.{length-versions}
 use Rattle.map_store.specs.declared.MapHead.{MapHead}
 use Rattle.map_store.specs.declared.Outcome.{Outcome}
-use Rattle.map_store.specs.Meaning.{MapStore, mapAnswer, gives, listAnswer, checkpointRefusal}
+use Rattle.map_store.specs.Meaning.{MapStore, mapAnswer, gives, checkpointRefusal}
 use Rattle.map_store.specs.Shape.{isShaped, Shaped, roomOf, meaning}
-use Rattle.map_store.specs.Heads.{headAfter, rowsIn}
-use Rattle.map_store.specs.Contracts.{shapedNumber, number, decided, Answered, Committed, Put, listNumber, ListedAt, Written, ListedIn, checkpointNumber, Checkpointed, Thinned}
-use Rattle.map_store.specs.Tests.{say, list-timely, begin-numbered}
+use Rattle.map_store.specs.Heads.{headAfter}
+use Rattle.map_store.specs.Contracts.{shapedNumber, number, decided, Answered, Committed, Put, checkpointNumber, Checkpointed, Thinned}
+use Rattle.map_store.specs.Tests.{say, begin-numbered}
 
 -- the slot that was found is the place of the transaction, and its rows are in order
 module _ (h : Slots) (n : ℕ) (f : Found) (e : f ≡ slotOf h n) where
@@ -152,49 +150,6 @@ module _ (n t : ℕ) (h : MapHead) (ks ts vs : List ℕ) where
     pub commit-carried-out : (head : MapHead) (ks' ts' vs' : List ℕ) → accepted Absent ≡ decided (Commit n t) (roomOf (length ks)) (meaning h ks ts vs)
         → Put n t h ks ts vs true head ks' ts' vs' → Committed n t h ks ts vs (accepted Absent) head ks' ts' vs'
     commit-carried-out head ks' ts' vs' d p = committed shaped (accepted Absent) d true refl head ks' ts' vs' p
-
-module _ (t : ℕ) (h : MapHead) (ks ts vs oks ovs : List ℕ) where
-  -- columns of a list that are not paired, or a store of bad shape
-  list-turned : listNumber t h ks ts vs oks ovs ≡ 1 → ListedAt t h ks ts vs oks ovs (refused BadShape) oks ovs
-  list-turned q =
-      record {
-        reply = say 1 (listNumber t h ks ts vs oks ovs) _ q;
-        keys = after-refused BadShape (listNumber t h ks ts vs oks ovs) _ oks q;
-        values = after-refused BadShape (listNumber t h ks ts vs oks ovs) _ ovs q;
-      }
-
-  pub list-unpaired : eqb (length oks) (length ovs) ≡ false → ListedAt t h ks ts vs oks ovs (refused BadShape) oks ovs
-  list-unpaired e = list-turned (rw e)
-
-  module _ (paired : eqb (length oks) (length ovs) ≡ true) where
-    pub list-bad-shape : isShaped h (length ks) (length ts) (length vs) ≡ false → ListedAt t h ks ts vs oks ovs (refused BadShape) oks ovs
-    list-bad-shape e = list-turned (rw paired (number-bad h ks ts vs (listAnswer (length oks) t) e))
-
-    module _ (shaped : isShaped h (length ks) (length ts) (length vs) ≡ true) (a : Reply)
-        (d : a ≡ told (listAnswer (length oks) t (meaning h ks ts vs)) (Present (length (listAt (versionsOf (h .used) ks ts vs) t))))
-        (accepted : Bool) (y : accepted ≡ eqb (a .number) 0) where
-      pub listed : (oks' ovs' : List ℕ) → Written (listAt (versionsOf (h .used) ks ts vs) t) oks ovs accepted oks' ovs'
-          → ListedAt t h ks ts vs oks ovs a oks' ovs'
-      listed oks' ovs' p =
-          let q : listNumber t h ks ts vs oks ovs ≡ listAnswer (length oks) t (meaning h ks ts vs) =
-          rw paired (number-good h ks ts vs (listAnswer (length oks) t) shaped) in
-          record {
-            reply = replied _ _ _ q a d;
-            keys = changed _ _ _ q a d accepted y _ _ oks' (p .keys);
-            values = changed _ _ _ q a d accepted y _ _ ovs' (p .values);
-          }
-
-    module _ (shaped : isShaped h (length ks) (length ts) (length vs) ≡ true) where
-      -- a time that is refused changes nothing
-      pub list-untimely : (x : Refusal) → refused x ≡ told (listAnswer (length oks) t (meaning h ks ts vs)) (Present (length (listAt (versionsOf (h .used) ks ts vs) t)))
-          → ListedAt t h ks ts vs oks ovs (refused x) oks ovs
-      list-untimely x d = listed shaped (refused x) d false (sym (refused-some x)) oks ovs (record { keys = refl; values = refl })
-
-      -- where the time is good, what was told and written is the contract
-      pub list-timed : h .low ≤ t → t ≤ h .last → (a : Reply) (oks' ovs' : List ℕ)
-          → ListedIn (listAt (versionsOf (h .used) ks ts vs) t) oks ovs a oks' ovs' → ListedAt t h ks ts vs oks ovs a oks' ovs'
-      list-timed b c a oks' ovs' w =
-          listed shaped a (rw (list-timely (meaning h ks ts vs) t b c (length oks)) (w .reply)) (eqb (a .number) 0) refl oks' ovs' (w .written)
 
 module _ (t : ℕ) (h : MapHead) (ks ts vs : List ℕ) where
   pub checkpoint-bad-shape : isShaped h (length ks) (length ts) (length vs) ≡ false → Checkpointed t h ks ts vs (refused BadShape) h ks ts vs

@@ -1,5 +1,6 @@
--- No second answer, no second head and no second contents of the lent columns satisfy a contract. Assumes nothing.
+-- No second answer satisfies the contract of a public function of the map store: not another answer, head or cell. Assumes nothing.
 use mathlib.Core.Path.{_≡_, sym, ap₂, _∙_}
+use mathlib.Core.Bool.{Bool}
 use mathlib.Core.List.{List}
 use Prim.Native.Nat.{ℕ}
 use Rattle.rules.specs.Calls.{Call}
@@ -12,8 +13,11 @@ use Rattle.answer.specs.Laws.{begun-only, done-only, got-only, listed-only}
 use Rattle.map_store.specs.declared.MapHead.{MapHead}
 use Rattle.map_store.specs.declared.Started.{Started}
 use Rattle.map_store.specs.declared.Outcome.{Outcome}
-use Rattle.map_store.specs.Shape.{emptyHead}
+use Rattle.map_store.specs.Shape.{emptyHead, isShaped}
 use Rattle.map_store.specs.Contracts.{Answered, Committed, readReply, lookupReply, ListedAt, Checkpointed}
+
+pub shaped-unique : (h : MapHead) (keys times values : ℕ) (a b : Bool) → a ≡ isShaped h keys times values → b ≡ isShaped h keys times values → a ≡ b
+shaped-unique h keys times values a b p q = p ∙ sym q
 
 pub empty-unique : {a b : MapHead} → a ≡ emptyHead → b ≡ emptyHead → a ≡ b
 empty-unique p q = p ∙ sym q

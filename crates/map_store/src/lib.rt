@@ -22,7 +22,6 @@ pub mod abort;
 pub mod begin;
 pub mod checkpoint;
 pub mod commit;
-pub mod list;
 pub mod lookup;
 pub mod read;
 pub mod update;
@@ -69,7 +68,7 @@ pub struct Outcome {
 
 // Section 6, number 1, the same for every call: used versions within limit and lent room, three columns of one length, next not 0, no occupied
 // slot with more than 32 keys.
-fn shaped(h: MapHead, keys: usize, times: usize, values: usize) -> bool
+pub fn shaped(h: MapHead, keys: usize, times: usize, values: usize) -> bool
     ensures { λ r. ⌜ r ≡ isShaped h keys times values ⌝ }
     ensures { λ r. ⌜ (r ≡ true → Shaped h keys times values) ⌝ }
 {

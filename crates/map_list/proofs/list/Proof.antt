@@ -1,4 +1,4 @@
--- `map_store::list::list` meets its contract: a law for each way out. Assumes nothing.
+-- `map_list::list` meets its contract: a law for each way out. Assumes nothing.
 use mathlib.Core.Path.{sym, _∙_}
 use lib.ListN.{length}
 use borrow.Author.Needs.{needs}
@@ -8,12 +8,13 @@ use Rattle.rules.specs.declared.Value.the-variants.{Present}
 use Rattle.answer.specs.declared.Refusal.the-variants.{TooOld, Future}
 use Rattle.answer.specs.Reply.{ofListed}
 use Rattle.versions.specs.Versions.{listAt}
 use Rattle.map_store.specs.Meaning.{listAnswer}
 use Rattle.map_store.specs.Shape.{meaning}
-use Rattle.map_store.specs.Laws.{lent, list-unpaired, list-bad-shape, list-untimely, list-timed}
+use Rattle.map_store.specs.Laws.{lent}
 use Rattle.map_store.specs.Tests.{say, list-old, list-future}
-use Rattle.map_store.proofs.list.list.Statement.{statement}
-use Rattle.map_store.proofs.list.list.Tie as tie
+use Rattle.map_list.specs.List.{list-unpaired, list-bad-shape, list-untimely, list-timed}
+use Rattle.map_list.proofs.list.Statement.{statement}
+use Rattle.map_list.proofs.list.Tie as tie
 
 returns : tie.Need-returns
 returns c =

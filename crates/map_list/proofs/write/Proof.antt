@@ -1,4 +1,4 @@
--- `map_store::list::write` meets its contract: the list that was made aside is told, and copied where there is room. Assumes nothing.
+-- `map_list::write` meets its contract: the list that was made aside is told, and copied where there is room. Assumes nothing.
 use mathlib.Core.Path.{_≡_, refl, ap}
 use mathlib.Core.List.{List, _++_}
 use Prim.Native.Nat.{ℕ, _≤_, _<_}
@@ -15,10 +15,10 @@ use Rattle.answer.specs.Reply.{refused, accepted}
 use Rattle.table.specs.Table.{Next}
 use Rattle.table.specs.Laws.{next-within, next-copied}
 use Rattle.versions.specs.Versions.{versionsOf, listAt}
-use Rattle.map_store.specs.Contracts.{ListedIn}
 use Rattle.map_store.specs.Tests.{say, say-value}
-use Rattle.map_store.proofs.list.write.Statement.{statement}
-use Rattle.map_store.proofs.list.write.Tie as tie
+use Rattle.map_list.specs.List.{ListedIn}
+use Rattle.map_list.proofs.write.Statement.{statement}
+use Rattle.map_list.proofs.write.Tie as tie
 
 module _ (rows : List Row) (oks ovs : List ℕ) {a b a' b' : List ℕ} {n : ℕ} (w : Next rows a b a' b' n) where
   no-room : length oks < n → ListedIn rows oks ovs (refused NoRoom) oks ovs

@@ -1,4 +1,4 @@
-// List: every key that has a value at a time from low to last, rising, with its value. Refusals 1, 4, 5, 12.
+// The map store's list: every key that has a value at a time from low to last, rising, with its value. Refusals 1, 4, 5, 12.
 ghost use mathlib.Core.Path.{_≡_};
 ghost use Prim.Native.Nat.{_≤_, _<_};
 ghost use lib.ListN.{length};
@@ -6,10 +6,11 @@ ghost use Rattle.answer.specs.Reply.{ofListed};
 ghost use Rattle.versions.specs.Versions.{versionsOf, listAt};
 ghost use Rattle.versions.specs.Columns.{Lent};
 ghost use Rattle.table.specs.Table.{Spare};
-ghost use Rattle.map_store.specs.Contracts.{ListedAt, ListedIn};
-use crate::MapHead;
+ghost use Rattle.map_store.specs.Contracts.{ListedAt};
+ghost use Rattle.map_list.specs.List.{ListedIn};
 use answer::Listed;
 use answer::Refusal;
+use map_store::MapHead;
 use versions::Version;
 
 // The list of the first versions at t: computed in two columns aside, and copied where the lent ones have a row for each of its own.
@@ -110,7 +111,7 @@ pub fn list(
     if out_keys.len() != out_values.len() {
         return Listed::Refused(Refusal::BadShape);
     }
-    if !crate::shaped(h, keys.len(), times.len(), values.len()) {
+    if !map_store::shaped(h, keys.len(), times.len(), values.len()) {
         return Listed::Refused(Refusal::BadShape);
     }
     if t < h.low {
