@@ -176,5 +176,5 @@ pub extern "C" fn registers_map_checkpoint(
 ) -> MapOutcome
     ensures { λ r. ⌜ MapReturns (λ a head. Checkpointed t h (now (keys .entry)) (now (times .entry)) (now (values .entry)) a head (now (keys .exit)) (now (times .exit)) (now (values .exit))) r ⌝ }
 {
-    ended(map_store::checkpoint::checkpoint(h, keys, times, values, t))
+    ended(map_checkpoint::checkpoint(h, keys, times, values, t))
 }

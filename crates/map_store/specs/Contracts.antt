@@ -86,10 +86,3 @@ pub record Put (n t : ℕ) (h : MapHead) (ks ts vs : List ℕ) (accepted : Bool)
   pub keys : ks' ≡ cond accepted (written (h .used) (λ r. r .key) (rowsIn (h .slots) (slotOf (h .slots) n)) ks) ks
   pub times : ts' ≡ cond accepted (written (h .used) (λ r. t) (rowsIn (h .slots) (slotOf (h .slots) n)) ts) ts
   pub values : vs' ≡ cond accepted (written (h .used) (λ r. r .value) (rowsIn (h .slots) (slotOf (h .slots) n)) vs) vs
-
--- what a checkpoint that is accepted or not makes of the head and the columns
-pub record Thinned (t : ℕ) (h : MapHead) (ks ts vs : List ℕ) (accepted : Bool) (head : MapHead) (ks' ts' vs' : List ℕ) : Type 0 where
-  pub headed : head ≡ cond accepted (keptHead t h (versionsOf (h .used) ks ts vs)) h
-  pub keys : ks' ≡ cond accepted (settled (λ v. v .key) (keptFrom t (versionsOf (h .used) ks ts vs)) (h .used) ks) ks
-  pub times : ts' ≡ cond accepted (settled (λ v. v .time) (keptFrom t (versionsOf (h .used) ks ts vs)) (h .used) ts) ts
-  pub values : vs' ≡ cond accepted (settled (λ v. v .value) (keptFrom t (versionsOf (h .used) ks ts vs)) (h .used) vs) vs

@@ -25,13 +25,13 @@ use Rattle.slot.specs.Laws.{first-slot}
 use Rattle.slot.specs.Places.{free, placeOf, placeIn, placesOf, takenBy}
 use Rattle.slot.specs.PlaceLaws.{place-slot}
 use Rattle.versions.specs.Versions.{versionsOf}
-use Rattle.versions.specs.Columns.{Lent, Kept}
+use Rattle.versions.specs.Columns.{Lent}
 use Rattle.map_store.specs.declared.MapHead.{MapHead}
 use Rattle.map_store.specs.declared.Outcome.{Outcome}
-use Rattle.map_store.specs.Meaning.{MapStore, mapAnswer, gives, checkpointRefusal}
+use Rattle.map_store.specs.Meaning.{MapStore, mapAnswer, gives}
 use Rattle.map_store.specs.Shape.{isShaped, Shaped, roomOf, meaning}
 use Rattle.map_store.specs.Heads.{headAfter}
-use Rattle.map_store.specs.Contracts.{shapedNumber, number, decided, Answered, Committed, Put, checkpointNumber, Checkpointed, Thinned}
+use Rattle.map_store.specs.Contracts.{shapedNumber, number, decided, Answered, Committed, Put}
 use Rattle.map_store.specs.Tests.{say, begin-numbered}
 
 -- the slot that was found is the place of the transaction, and its rows are in order
@@ -150,41 +150,3 @@ module _ (n t : ℕ) (h : MapHead) (ks ts vs : List ℕ) where
     pub commit-carried-out : (head : MapHead) (ks' ts' vs' : List ℕ) → accepted Absent ≡ decided (Commit n t) (roomOf (length ks)) (meaning h ks ts vs)
         → Put n t h ks ts vs true head ks' ts' vs' → Committed n t h ks ts vs (accepted Absent) head ks' ts' vs'
     commit-carried-out head ks' ts' vs' d p = committed shaped (accepted Absent) d true refl head ks' ts' vs' p
-
-module _ (t : ℕ) (h : MapHead) (ks ts vs : List ℕ) where
-  pub checkpoint-bad-shape : isShaped h (length ks) (length ts) (length vs) ≡ false → Checkpointed t h ks ts vs (refused BadShape) h ks ts vs
-  checkpoint-bad-shape e =
-      let q = number-bad h ks ts vs (checkpointRefusal t) e in
-      record {
-        reply = say 1 (checkpointNumber t h ks ts vs) Absent q;
-        headed = after-refused BadShape (checkpointNumber t h ks ts vs) _ h q;
-        keys = after-refused BadShape (checkpointNumber t h ks ts vs) _ ks q;
-        times = after-refused BadShape (checkpointNumber t h ks ts vs) _ ts q;
-        values = after-refused BadShape (checkpointNumber t h ks ts vs) _ vs q;
-      }
-
-  pub checkpointed : isShaped h (length ks) (length ts) (length vs) ≡ true → (a : Reply) → a ≡ told (checkpointRefusal t (meaning h ks ts vs)) Absent
-      → (accepted : Bool) → accepted ≡ eqb (a .number) 0 → (head : MapHead) (ks' ts' vs' : List ℕ)
-      → Thinned t h ks ts vs accepted head ks' ts' vs' → Checkpointed t h ks ts vs a head ks' ts' vs'
-  checkpointed shaped a d accepted y head ks' ts' vs' p =
-      let q = number-good h ks ts vs (checkpointRefusal t) shaped in
-      record {
-        reply = replied _ _ Absent q a d;
-        headed = changed _ _ Absent q a d accepted y _ _ head (p .headed);
-        keys = changed _ _ Absent q a d accepted y _ _ ks' (p .keys);
-        times = changed _ _ Absent q a d accepted y _ _ ts' (p .times);
-        values = changed _ _ Absent q a d accepted y _ _ vs' (p .values);
-      }
-
-  module _ (shaped : isShaped h (length ks) (length ts) (length vs) ≡ true) where
-    pub checkpoint-turned-down : (o : Outcome) (x : Refusal) → (o .head ≡ h) × (o .answer ≡ done.Refused x)
-        → refused x ≡ told (checkpointRefusal t (meaning h ks ts vs)) Absent → Checkpointed t h ks ts vs (ofDone (o .answer)) (o .head) ks ts vs
-    checkpoint-turned-down o x r d =
-        rw (r .0, r .1)
-        (checkpointed shaped (refused x) d false (sym (refused-some x)) h ks ts vs (record { headed = refl; keys = refl; times = refl; values = refl }))
-
-    pub checkpoint-carried-out : (ks' ts' vs' : List ℕ) (r : ℕ) → accepted Absent ≡ told (checkpointRefusal t (meaning h ks ts vs)) Absent
-        → Kept t (h .used) ks ts vs ks' ts' vs' r
-        → Checkpointed t h ks ts vs (accepted Absent) (record { low = t; last = h .last; next = h .next; used = r; slots = h .slots }) ks' ts' vs'
-    checkpoint-carried-out ks' ts' vs' r d w =
-        checkpointed shaped (accepted Absent) d true refl _ ks' ts' vs' (record { headed = rw (w .count); keys = w .keys; times = w .times; values = w .values })

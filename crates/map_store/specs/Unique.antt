@@ -5,7 +5,9 @@ use mathlib.Core.List.{List}
 use Prim.Native.Nat.{ℕ}
 use Rattle.rules.specs.Calls.{Call}
 use Rattle.answer.specs.declared.Begun.{Begun}
+use Rattle.answer.specs.declared.Refusal.{Refusal}
 use Rattle.answer.specs.declared.Done.{Done}
+use Rattle.answer.specs.declared.Done.the-variants as done
 use Rattle.answer.specs.declared.Got.{Got}
 use Rattle.answer.specs.declared.Listed.{Listed}
 use Rattle.answer.specs.Reply.{ofBegun, ofDone, ofGot, ofListed}
@@ -25,6 +27,10 @@ empty-unique p q = p ∙ sym q
 -- what is returned is its head and its answer
 outcome : (r s : Outcome) → r .head ≡ s .head → r .answer ≡ s .answer → r ≡ s
 outcome r s p q = ap₂ (λ (h : MapHead) (a : Done). record { head = h; answer = a }) p q
+
+pub refused-unique : {h : MapHead} {why : Refusal} (r s : Outcome) → (r .head ≡ h) × (r .answer ≡ done.Refused why)
+    → (s .head ≡ h) × (s .answer ≡ done.Refused why) → r ≡ s
+refused-unique r s p q = outcome r s (p .0 ∙ sym (q .0)) (p .1 ∙ sym (q .1))
 
 module _ (h : MapHead) (ks ts vs : List ℕ) where
   pub begin-unique : {c : Call} (r s : Started) → Answered c h ks ts vs (ofBegun (r .answer)) (r .head)

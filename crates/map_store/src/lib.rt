@@ -20,7 +20,6 @@ use versions::Version;
 
 pub mod abort;
 pub mod begin;
-pub mod checkpoint;
 pub mod commit;
 pub mod lookup;
 pub mod read;
@@ -93,7 +92,7 @@ pub fn shaped(h: MapHead, keys: usize, times: usize, values: usize) -> bool
 }
 
 // A call that is refused changes nothing.
-fn refused(h: MapHead, why: Refusal) -> Outcome
+pub fn refused(h: MapHead, why: Refusal) -> Outcome
     ensures { λ r. ⌜ (r .head ≡ h) × (r .answer ≡ Done.Refused why) ⌝ }
 {
     Outcome {

@@ -1,4 +1,4 @@
--- `map_store::checkpoint::checkpoint` meets its contract: a law for each way out. Assumes nothing.
+-- `map_checkpoint::checkpoint` meets its contract: a law for each way out. Assumes nothing.
 use mathlib.Core.Path.{sym, _∙_}
 use borrow.Author.Needs.{needs}
 use borrow.Author.Tests.{not-true, not-false}
@@ -6,12 +6,13 @@ use denote.Ref.{now}
 use Rattle.rules.specs.declared.Value.the-variants.{Absent}
 use Rattle.answer.specs.declared.Refusal.the-variants.{TooOld, Future, Held}
 use Rattle.slot.specs.PlaceLaws.{holds-slots}
 use Rattle.map_store.specs.Meaning.{checkpointRefusal}
 use Rattle.map_store.specs.Shape.{meaning}
-use Rattle.map_store.specs.Laws.{lent, checkpoint-bad-shape, checkpoint-turned-down, checkpoint-carried-out}
+use Rattle.map_store.specs.Laws.{lent}
 use Rattle.map_store.specs.Tests.{say, time-old, time-future, checkpoint-held, checkpoint-done}
-use Rattle.map_store.proofs.checkpoint.checkpoint.Statement.{statement}
-use Rattle.map_store.proofs.checkpoint.checkpoint.Tie as tie
+use Rattle.map_checkpoint.specs.Checkpoint.{checkpoint-bad-shape, checkpoint-turned-down, checkpoint-carried-out}
+use Rattle.map_checkpoint.proofs.checkpoint.Statement.{statement}
+use Rattle.map_checkpoint.proofs.checkpoint.Tie as tie
 
 shaped-requires : tie.Need-shaped-requires
 shaped-requires c κs = search needs
