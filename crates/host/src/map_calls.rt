@@ -116,7 +116,7 @@ pub extern "C" fn registers_map_commit(
 ) -> MapOutcome
     ensures { λ r. ⌜ MapReturns (λ a head. Committed n t h (now (keys .entry)) (now (times .entry)) (now (values .entry)) a head (now (keys .exit)) (now (times .exit)) (now (values .exit))) r ⌝ }
 {
-    ended(map_store::commit::commit(h, keys, times, values, n, t))
+    ended(map_commit::commit(h, keys, times, values, n, t))
 }
 
 // The value of k as a running transaction sees it, or absent. Refusals 1, 2, 3.

@@ -1,12 +1,11 @@
 -- The contracts of the calls: the answer, the head and every lent column, for a store of any shape. Assumes nothing.
 use mathlib.Core.Path.{_≡_}
-use mathlib.Core.Bool.{Bool, cond}
+use mathlib.Core.Bool.{cond}
 use mathlib.Core.List.{List, _++_}
 use Prim.Native.Nat.{ℕ, _+_}
 use lib.Dec.{eqb}
 use lib.ListN.{length, drop}
 use Rattle.rules.specs.declared.Value.the-variants.{Absent, Present}
-use Rattle.rules.specs.Values.{Row}
 use Rattle.rules.specs.Lists.{rowKeys}
 use Rattle.rules.specs.Columns.{rowValues}
 use Rattle.rules.specs.Calls.{Call, Commit}
@@ -17,7 +16,7 @@ use Rattle.versions.specs.Columns.{settled}
 use Rattle.map_store.specs.declared.MapHead.{MapHead}
 use Rattle.map_store.specs.Meaning.{MapStore, mapAnswer, gives, readRefusal, readIn, lookupRefusal, listAnswer, checkpointRefusal}
 use Rattle.map_store.specs.Shape.{isShaped, roomOf, meaning}
-use Rattle.map_store.specs.Heads.{headAfter, committedHead, rowsIn, written, keptHead}
+use Rattle.map_store.specs.Heads.{headAfter, rowsIn, written, keptHead}
 
 -- the number of a call on lent cells: 1 where the shape is bad, else what it gets on their meaning
 abbrev pub shapedNumber : MapHead → List ℕ → List ℕ → List ℕ → (MapStore → ℕ) → ℕ
@@ -72,17 +71,3 @@ pub record Checkpointed (t : ℕ) (h : MapHead) (ks ts vs : List ℕ) (a : Reply
   pub keys : ks' ≡ after (checkpointNumber t h ks ts vs) (settled (λ v. v .key) (keptFrom t (versionsOf (h .used) ks ts vs)) (h .used) ks) ks
   pub times : ts' ≡ after (checkpointNumber t h ks ts vs) (settled (λ v. v .time) (keptFrom t (versionsOf (h .used) ks ts vs)) (h .used) ts) ts
   pub values : vs' ≡ after (checkpointNumber t h ks ts vs) (settled (λ v. v .value) (keptFrom t (versionsOf (h .used) ks ts vs)) (h .used) vs) vs
-
--- the columns with some rows written behind their used ones at one commit time, and how many are used then
-pub record Stamped (t used : ℕ) (rows : List Row) (ks ts vs ks' ts' vs' : List ℕ) (r : ℕ) : Type 0 where
-  pub count : r ≡ used + length rows
-  pub keys : ks' ≡ written used (λ r. r .key) rows ks
-  pub times : ts' ≡ written used (λ r. t) rows ts
-  pub values : vs' ≡ written used (λ r. r .value) rows vs
-
--- what a commit that is accepted or not makes of the head and the columns
-pub record Put (n t : ℕ) (h : MapHead) (ks ts vs : List ℕ) (accepted : Bool) (head : MapHead) (ks' ts' vs' : List ℕ) : Type 0 where
-  pub headed : head ≡ cond accepted (committedHead t (slotOf (h .slots) n) h) h
-  pub keys : ks' ≡ cond accepted (written (h .used) (λ r. r .key) (rowsIn (h .slots) (slotOf (h .slots) n)) ks) ks
-  pub times : ts' ≡ cond accepted (written (h .used) (λ r. t) (rowsIn (h .slots) (slotOf (h .slots) n)) ts) ts
-  pub values : vs' ≡ cond accepted (written (h .used) (λ r. r .value) (rowsIn (h .slots) (slotOf (h .slots) n)) vs) vs

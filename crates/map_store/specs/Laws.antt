@@ -2,15 +2,14 @@
 use mathlib.Core.Path.{_≡_, refl, sym, ap, _∙_}
 use mathlib.Core.Bool.{Bool, true, false, cond}
 use mathlib.Core.List.{List}
-use Prim.Native.Nat.{ℕ, _+_, _<_, _≤_}
-use native.Mathlib.Nat.{min-le-right}
+use Prim.Native.Nat.{ℕ, _<_}
 use native.Mathlib.Omega.{arith}
 use lib.Dec.{eqb}
 use lib.ListN.{length}
 use borrow.Author.Tests.{eqb-true}
 use Rattle.rules.specs.declared.Value.{Value}
 use Rattle.rules.specs.declared.Value.the-variants.{Absent}
-use Rattle.rules.specs.Calls.{Call, Begin, Commit}
+use Rattle.rules.specs.Calls.{Call, Begin}
 use Rattle.answer.specs.declared.Refusal.{Refusal}
 use Rattle.answer.specs.declared.Refusal.the-variants.{BadShape}
 use Rattle.answer.specs.declared.Done.the-variants as done
@@ -31,7 +30,7 @@ use Rattle.map_store.specs.declared.Outcome.{Outcome}
 use Rattle.map_store.specs.Meaning.{MapStore, mapAnswer, gives}
 use Rattle.map_store.specs.Shape.{isShaped, Shaped, roomOf, meaning}
 use Rattle.map_store.specs.Heads.{headAfter}
-use Rattle.map_store.specs.Contracts.{shapedNumber, number, decided, Answered, Committed, Put}
+use Rattle.map_store.specs.Contracts.{shapedNumber, number, decided, Answered}
 use Rattle.map_store.specs.Tests.{say, begin-numbered}
 
 -- the slot that was found is the place of the transaction, and its rows are in order
@@ -50,13 +49,6 @@ module _ (h : Slots) (n : ℕ) (f : Found) (e : f ≡ slotOf h n) where
 pub lent : (h : MapHead) (ks ts vs : List ℕ) → Shaped h (length ks) (length ts) (length vs) → Lent (h .used) ks ts vs
 lent h ks ts vs w =
     record { keys = w .rows; times = omega (arith, w .rows, w .times); values = omega (arith, w .rows, w .values) }
-
--- rows for which there is room behind the used ones are lent
-pub room-lent : (h : MapHead) (ks ts vs : List ℕ) → Shaped h (length ks) (length ts) (length vs) → (rows : ℕ) → h .used + rows ≤ roomOf (length ks)
-    → Lent (h .used + rows) ks ts vs
-room-lent h ks ts vs w rows l =
-    let r = min-le-right 4096 (length ks) in
-    record { keys = omega arith; times = omega (arith, w .times); values = omega (arith, w .values) }
 
 module _ (h : MapHead) (ks ts vs : List ℕ) (f : MapStore → ℕ) where
   pub number-bad : isShaped h (length ks) (length ts) (length vs) ≡ false → shapedNumber h ks ts vs f ≡ 1
@@ -115,38 +107,3 @@ pub begin-next : (h : MapHead) (ks ts vs : List ℕ) (t : ℕ) (a : Reply) → a
     → (accepted : Bool) → accepted ≡ eqb (a .number) 0 → accepted ≡ true → h .next < 4294967295
 begin-next h ks ts vs t a d accepted y f =
     begin-numbered (meaning h ks ts vs) t (is-accepted _ _ (gives (Begin t) (meaning h ks ts vs)) refl a d accepted y f)
-
-module _ (n t : ℕ) (h : MapHead) (ks ts vs : List ℕ) where
-  pub commit-bad-shape : isShaped h (length ks) (length ts) (length vs) ≡ false → Committed n t h ks ts vs (refused BadShape) h ks ts vs
-  commit-bad-shape e =
-      let q = number-bad h ks ts vs (mapAnswer (roomOf (length ks)) (Commit n t)) e in
-      record {
-        answered = bad-shape (Commit n t) h ks ts vs e;
-        keys = after-refused BadShape (number (Commit n t) h ks ts vs) _ ks q;
-        times = after-refused BadShape (number (Commit n t) h ks ts vs) _ ts q;
-        values = after-refused BadShape (number (Commit n t) h ks ts vs) _ vs q;
-      }
-
-  module _ (shaped : isShaped h (length ks) (length ts) (length vs) ≡ true) (a : Reply)
-      (d : a ≡ decided (Commit n t) (roomOf (length ks)) (meaning h ks ts vs)) (accepted : Bool) (y : accepted ≡ eqb (a .number) 0) where
-    pub committed : (head : MapHead) (ks' ts' vs' : List ℕ) → Put n t h ks ts vs accepted head ks' ts' vs'
-        → Committed n t h ks ts vs a head ks' ts' vs'
-    committed head ks' ts' vs' p =
-        let q = number-good h ks ts vs (mapAnswer (roomOf (length ks)) (Commit n t)) shaped in
-        record {
-          answered = answered (Commit n t) h ks ts vs shaped a d accepted y head (p .headed);
-          keys = changed _ _ Absent q a d accepted y _ _ ks' (p .keys);
-          times = changed _ _ Absent q a d accepted y _ _ ts' (p .times);
-          values = changed _ _ Absent q a d accepted y _ _ vs' (p .values);
-        }
-
-  module _ (shaped : isShaped h (length ks) (length ts) (length vs) ≡ true) where
-    pub commit-turned-down : (o : Outcome) (x : Refusal) → (o .head ≡ h) × (o .answer ≡ done.Refused x)
-        → refused x ≡ decided (Commit n t) (roomOf (length ks)) (meaning h ks ts vs) → Committed n t h ks ts vs (ofDone (o .answer)) (o .head) ks ts vs
-    commit-turned-down o x r d =
-        rw (r .0, r .1)
-        (committed shaped (refused x) d false (sym (refused-some x)) h ks ts vs (record { headed = refl; keys = refl; times = refl; values = refl }))
-
-    pub commit-carried-out : (head : MapHead) (ks' ts' vs' : List ℕ) → accepted Absent ≡ decided (Commit n t) (roomOf (length ks)) (meaning h ks ts vs)
-        → Put n t h ks ts vs true head ks' ts' vs' → Committed n t h ks ts vs (accepted Absent) head ks' ts' vs'
-    commit-carried-out head ks' ts' vs' d p = committed shaped (accepted Absent) d true refl head ks' ts' vs' p

@@ -4,6 +4,5 @@ pub mod Heads
 pub mod Contracts
 pub mod Tests
 pub mod Laws
-pub mod RowLaws
 pub mod MeaningLaws
 pub mod Unique

@@ -6,7 +6,7 @@ use Prim.Native.Nat.{ℕ, suc, _+_, _-_, _≤_}
 use native.Mathlib.Nat.{add-zero, min-le-left, min-le-right}
 use native.Mathlib.Omega.{arith}
 use lib.Dec.{eqb, ltb}
-use lib.ListN.{length, drop, replicate, length-append, length-drop, length-replicate}
+use lib.ListN.{length, drop, replicate, length-set, length-append, length-drop, length-replicate}
 use borrow.Author.Tests.{le-leb, eq-eqb, ne-eqb}
 use Rattle.rules.specs.declared.Effect.{Effect}
 use Rattle.rules.specs.Effects.{orZero, applied}
@@ -32,7 +32,6 @@ use Rattle.map_store.specs.Shape.{emptyHead, isShaped, Shaped, roomOf, m
 use Rattle.map_store.specs.Heads.{begunHead, updatedHead, abortedHead, rowsIn, committedHead, written, keptHead}
 use Rattle.map_store.specs.Laws.{place-none, place-found}
 use Rattle.map_store.specs.Tests.{abort-unknown, update-unknown, commit-unknown, commit-fits}
-use Rattle.map_store.specs.RowLaws.{length-written}
 
 -- a good shape passes the test
 pub shape-passes : (h : MapHead) (ks ts vs : ℕ) → Shaped h ks ts vs → isShaped h ks ts vs ≡ true
@@ -53,6 +52,11 @@ empty-shaped n =
 
 pub empty-meaning : (ks ts vs : List ℕ) → meaning emptyHead ks ts vs ≡ emptyMap
 empty-meaning ks ts vs = ap (λ (ps : List Place). record { low = 0; last = 0; next = 1; places = ps; versions = [] }) empty-places
+
+-- what is written is written over
+pub length-written : (n : ℕ) (field : Row → ℕ) (rows : List Row) (cells : List ℕ) → length (written n field rows cells) ≡ length cells
+length-written n field [] cells = refl
+length-written n field (r ∷ older) cells = length-set (written n field older cells) (n + length older) (field r) ∙ length-written n field older cells
 
 -- rows written behind n used ones are a version each
 pub stamped-versions : (t n : ℕ) (rows : List Row) (ks ts vs : List ℕ) → Lent (n + length rows) ks ts vs

@@ -8,7 +8,7 @@ ghost use Rattle.versions.specs.Columns.{Lent};
 ghost use Rattle.versions.specs.Versions.{versionsOf};
 ghost use Rattle.map_store.specs.Meaning.{current};
 ghost use Rattle.map_store.specs.Heads.{withSlots};
-ghost use Rattle.map_store.specs.Shape.{emptyHead, isShaped, Shaped, roomOf};
+ghost use Rattle.map_store.specs.Shape.{emptyHead, isShaped, Shaped};
 use answer::Begun;
 use answer::Done;
 use answer::Refusal;
@@ -20,7 +20,6 @@ use versions::Version;
 
 pub mod abort;
 pub mod begin;
-pub mod commit;
 pub mod lookup;
 pub mod read;
 pub mod update;
@@ -115,16 +114,6 @@ fn accepted(h: MapHead, slots: Slots) -> Outcome
         },
         answer: Done::Accepted,
     }
-}
-
-// How many versions the lent columns have room for, at most the limit.
-fn room(rows: usize) -> usize
-    ensures { λ r. ⌜ r ≡ roomOf rows ⌝ }
-{
-    if Version::ROWS < rows {
-        return Version::ROWS;
-    }
-    rows
 }
 
 // Rule 3.5: what the transaction of a slot reads in k: the running value in its row, or the value at the snapshot where it has none.

@@ -1,4 +1,4 @@
--- `map_store::commit::is_first` meets its contract: a row is the first with its key exactly if no row before it is found. Assumes nothing.
+-- `map_commit::is_first` meets its contract: a row is the first with its key exactly if no row before it is found. Assumes nothing.
 use mathlib.Core.Path.{_≡_, sym, _∙_}
 use mathlib.Core.Bool.{true, false, not}
 use Prim.Native.Nat.{ℕ, _<_}
@@ -9,10 +9,10 @@ use Rattle.column.specs.Column.{firstRow}
 use Rattle.slot.specs.declared.Slot.{Slot}
 use Rattle.slot.specs.Formed.{Rowed}
 use Rattle.slot.specs.Places.{hasKey, rowsOf}
-use Rattle.map_store.specs.RowLaws.{has-before}
+use Rattle.map_commit.specs.RowLaws.{has-before}
 use borrow.Author.Needs.{needs}
-use Rattle.map_store.proofs.commit.is_first.Statement.{statement}
-use Rattle.map_store.proofs.commit.is_first.Tie as tie
+use Rattle.map_commit.proofs.is_first.Statement.{statement}
+use Rattle.map_commit.proofs.is_first.Tie as tie
 
 module _ (s : Slot) (w : Rowed s) (i : ℕ) (l : i < s .count) (f : Found) (e : f ≡ firstRow (getD (s .keys) i 0) (take i (s .keys))) where
   again : (j : ℕ) → f ≡ At j → false ≡ not (hasKey (getD (s .keys) i 0) (rowsOf (s .keys) (s .values) i))

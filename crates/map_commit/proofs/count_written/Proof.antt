@@ -1,4 +1,4 @@
--- `map_store::commit::count_written` meets its contract: the loop's invariant is the count of the rows that count among the first i; the measure is how many rows are left. Assumes nothing.
+-- `map_commit::count_written` meets its contract: the loop's invariant is the count of the rows that count among the first i; the measure is how many rows are left. Assumes nothing.
 use mathlib.Core.Path.{_≡_, refl, sym, _∙_}
 use mathlib.Core.Bool.{Bool, true, false}
 use mathlib.Core.List.{List}
@@ -6,12 +6,12 @@ use mathlib.Core.Logic.{⊎-elim}
 use Prim.Native.Nat.{ℕ, _+_, _-_, _≤_}
 use lib.ListN.{length}
 use Rattle.slot.specs.Places.{rowsOf}
 use Rattle.map_store.specs.Meaning.{firsts}
-use Rattle.map_store.specs.RowLaws.{isFirst, first-more, first-same}
+use Rattle.map_commit.specs.RowLaws.{isFirst, first-more, first-same}
 use borrow.Author.Needs.{needs}
 use native.Mathlib.Omega.{arith}
-use Rattle.map_store.proofs.commit.count_written.Statement.{statement}
-use Rattle.map_store.proofs.commit.count_written.Tie as tie
+use Rattle.map_commit.proofs.count_written.Statement.{statement}
+use Rattle.map_commit.proofs.count_written.Tie as tie
 
 module _ (ks vs : List ℕ) (i n m : ℕ) (b : Bool) (e : b ≡ isFirst ks vs i) (h : n ≡ length (firsts (rowsOf ks vs i))) where
   more : b ≡ true → m ≡ n + 1 → m ≡ length (firsts (rowsOf ks vs (i + 1)))

@@ -1,4 +1,4 @@
--- `map_store::commit::conflicts` meets its contract: the loop's invariant is that none of the first i rows clashes; the measure is how many rows are left. Assumes nothing.
+-- `map_commit::conflicts` meets its contract: the loop's invariant is that none of the first i rows clashes; the measure is how many rows are left. Assumes nothing.
 use mathlib.Core.Path.{_≡_, refl, sym, _∙_}
 use mathlib.Core.Bool.{Bool, true, false}
 use mathlib.Core.List.{List}
@@ -7,13 +7,13 @@ use lib.ListN.{getD}
 use Rattle.slot.specs.Places.{rowsOf}
 use Rattle.versions.specs.declared.Version.{Version}
 use Rattle.versions.specs.Versions.{versionsOf, later}
 use Rattle.map_store.specs.Meaning.{clash}
-use Rattle.map_store.specs.RowLaws.{clash-here, clash-none, clash-among}
+use Rattle.map_commit.specs.RowLaws.{clash-here, clash-none, clash-among}
 use borrow.Author.Needs.{needs}
 use native.Mathlib.Omega.{arith}
 use denote.Ref.{now}
-use Rattle.map_store.proofs.commit.conflicts.Statement.{statement}
-use Rattle.map_store.proofs.commit.conflicts.Tie as tie
+use Rattle.map_commit.proofs.conflicts.Statement.{statement}
+use Rattle.map_commit.proofs.conflicts.Tie as tie
 
 module _ (ks vs : List ℕ) (s : ℕ) (versions : List Version) (i : ℕ) (b : Bool) (e : b ≡ later s (getD ks i 0) versions) where
   hit : (n : ℕ) → i < n → b ≡ true → true ≡ clash s (rowsOf ks vs n) versions

@@ -1,4 +1,4 @@
-// Commit: the running values of a transaction become versions at a time later than last. Refusals 1, 2, 10, 11, 12.
+// The map store's commit: the running values of a transaction become versions at a time later than last. Refusals 1, 2, 10, 11, 12.
 ghost use mathlib.Core.Path.{_≡_};
 ghost use mathlib.Core.Bool.{not};
 ghost use mathlib.Core.List.{List};
@@ -9,15 +9,27 @@ ghost use Rattle.slot.specs.Formed.{Rowed};
 ghost use Rattle.slot.specs.Places.{hasKey, rowsOf, slotRows};
 ghost use Rattle.versions.specs.Versions.{versionsOf};
 ghost use Rattle.versions.specs.Columns.{Lent};
 ghost use Rattle.map_store.specs.Meaning.{firsts, clash};
-ghost use Rattle.map_store.specs.Contracts.{Committed, Stamped};
-use crate::MapHead;
-use crate::Outcome;
+ghost use Rattle.map_store.specs.Shape.{roomOf};
+ghost use Rattle.map_store.specs.Contracts.{Committed};
+ghost use Rattle.map_commit.specs.Commit.{Stamped};
 use answer::Done;
 use answer::Refusal;
 use column::Found;
+use map_store::MapHead;
+use map_store::Outcome;
 use slot::Slot;
 use versions::Version;
+
+// How many versions the lent columns have room for, at most the limit.
+fn room(rows: usize) -> usize
+    ensures { λ r. ⌜ r ≡ roomOf rows ⌝ }
+{
+    if Version::ROWS < rows {
+        return Version::ROWS;
+    }
+    rows
+}
 
 // Whether row i of a slot is the first that has its key: of one key twice it alone counts.
 fn is_first(s: Slot, i: usize) -> bool
@@ -105,23 +117,23 @@ pub fn commit(
 ) -> Outcome
     ensures { λ r. ⌜ Committed n t h (now (keys .entry)) (now (times .entry)) (now (values .entry)) (ofDone (r .answer)) (r .head) (now (keys .exit)) (now (times .exit)) (now (values .exit)) ⌝ }
 {
-    if !crate::shaped(h, keys.len(), times.len(), values.len()) {
-        return crate::refused(h, Refusal::BadShape);
+    if !map_store::shaped(h, keys.len(), times.len(), values.len()) {
+        return map_store::refused(h, Refusal::BadShape);
     }
     let slots = h.slots;
     let found = slots.find(n);
     let Found::At(i) = found else {
-        return crate::refused(h, Refusal::UnknownTransaction);
+        return map_store::refused(h, Refusal::UnknownTransaction);
     };
     if t <= h.last {
-        return crate::refused(h, Refusal::NotLater);
+        return map_store::refused(h, Refusal::NotLater);
     }
     let s = slots.slots[i];
     if conflicts(s, keys, times, h.used) {
-        return crate::refused(h, Refusal::Conflict);
+        return map_store::refused(h, Refusal::Conflict);
     }
-    if crate::room(keys.len()) < h.used + count_written(s) {
-        return crate::refused(h, Refusal::NoRoom);
+    if room(keys.len()) < h.used + count_written(s) {
+        return map_store::refused(h, Refusal::NoRoom);
     }
     let used = stamp(s, keys, times, values, h.used, t);
     Outcome {

@@ -1,5 +1,5 @@
 -- One row of a slot more: which keys the rows before it have, which rows count, what clashes, and what is written of them. Assumes nothing.
-use mathlib.Core.Path.{_≡_, refl, _∙_}
+use mathlib.Core.Path.{_≡_, _∙_}
 use mathlib.Core.Bool.{Bool, true, false, not}
 use mathlib.Core.List.{List, [], _∷_}
 use Prim.Native.Nat.{ℕ, zero, suc, _+_, _≤_, _<_}
@@ -7,7 +7,7 @@ use native.Mathlib.Nat.{le-refl}
 use native.Mathlib.Numerals.{add-one}
 use native.Mathlib.Omega.{arith}
 use lib.Dec.{eqb}
-use lib.ListN.{length, getD, take, length-set}
+use lib.ListN.{length, getD, take}
 use borrow.Author.Tests.{eqb-true, eqb-false, not-true, not-false}
 use Rattle.rules.specs.Bools.{split, or-left, or-right}
 use Rattle.rules.specs.Values.{Row}
@@ -20,9 +20,8 @@ use Rattle.slot.specs.RowLaws.{has-row}
 use Rattle.versions.specs.declared.Version.{Version}
 use Rattle.versions.specs.Versions.{later}
 use Rattle.versions.specs.Columns.{Appended}
 use Rattle.map_store.specs.Meaning.{firsts, clash}
-use Rattle.map_store.specs.Heads.{written}
-use Rattle.map_store.specs.Contracts.{Stamped}
+use Rattle.map_commit.specs.Commit.{Stamped}
 
 -- a slot of which the first i rows are in use
 abbrev upTo : Slot → ℕ → Slot
@@ -80,11 +79,6 @@ length-firsts [] = omega arith
 length-firsts (r ∷ rows) =
     let m = length-firsts rows in
     split (hasKey (r .key) rows) (λ t. rw t (omega arith)) (λ t. rw t (omega arith))
-
--- what is written is written over
-pub length-written : (n : ℕ) (field : Row → ℕ) (rows : List Row) (cells : List ℕ) → length (written n field rows cells) ≡ length cells
-length-written n field [] cells = refl
-length-written n field (r ∷ older) cells = length-set (written n field older cells) (n + length older) (field r) ∙ length-written n field older cells
 
 -- a row appended behind those that were written is one row more
 pub stamped-more : (t used : ℕ) (rows : List Row) (r : Row) (ks ts vs ks₁ ts₁ vs₁ ks₂ ts₂ vs₂ : List ℕ) (at : ℕ)

@@ -1,4 +1,4 @@
--- `map_store::commit::stamp` meets its contract: the loop's invariant is that the rows that count among the first i are written; the measure is how many rows are left. Assumes nothing.
+-- `map_commit::stamp` meets its contract: the loop's invariant is that the rows that count among the first i are written; the measure is how many rows are left. Assumes nothing.
 use mathlib.Core.Path.{_≡_, refl, sym, _∙_}
 use mathlib.Core.Bool.{Bool, true, false}
 use mathlib.Core.List.{List}
@@ -7,14 +7,15 @@ use Prim.Native.Nat.{ℕ, _+_, _-_, _≤_, _<_}
 use lib.ListN.{length, getD}
 use Rattle.slot.specs.Places.{rowsOf}
 use Rattle.versions.specs.Columns.{Lent, Appended}
 use Rattle.map_store.specs.Meaning.{firsts}
-use Rattle.map_store.specs.Contracts.{Stamped}
-use Rattle.map_store.specs.RowLaws.{isFirst, first-more, first-same, firsts-among, length-written, stamped-more}
+use Rattle.map_store.specs.MeaningLaws.{length-written}
+use Rattle.map_commit.specs.Commit.{Stamped}
+use Rattle.map_commit.specs.RowLaws.{isFirst, first-more, first-same, firsts-among, stamped-more}
 use borrow.Author.Needs.{needs}
 use native.Mathlib.Omega.{arith}
 use denote.Ref.{now}
-use Rattle.map_store.proofs.commit.stamp.Statement.{statement}
-use Rattle.map_store.proofs.commit.stamp.Tie as tie
+use Rattle.map_commit.proofs.stamp.Statement.{statement}
+use Rattle.map_commit.proofs.stamp.Tie as tie
 
 module _ (sk sv : List ℕ) (t used : ℕ) (ks ts vs : List ℕ) (i : ℕ) (ks₁ ts₁ vs₁ : List ℕ) (at : ℕ)
     (w : Stamped t used (firsts (rowsOf sk sv i)) ks ts vs ks₁ ts₁ vs₁ at) (b : Bool) (e : b ≡ isFirst sk sv i) where

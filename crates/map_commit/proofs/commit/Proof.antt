@@ -1,4 +1,4 @@
--- `map_store::commit::commit` meets its contract: a law for each way out. Assumes nothing.
+-- `map_commit::commit` meets its contract: a law for each way out. Assumes nothing.
 use mathlib.Core.Path.{_≡_, sym, ap, _∙_}
 use mathlib.Core.Bool.{true}
 use mathlib.Core.List.{List}
@@ -18,15 +18,15 @@ use Rattle.slot.specs.Slots.{slotAt, slotOf, closedIn}
 use Rattle.slot.specs.Places.{slotRows}
 use Rattle.slot.specs.RowLaws.{length-rows}
 use Rattle.versions.specs.Laws.{length-versions}
 use Rattle.map_store.specs.declared.MapHead.{MapHead}
 use Rattle.map_store.specs.Meaning.{firsts, mapAnswer}
 use Rattle.map_store.specs.Shape.{roomOf, meaning}
-use Rattle.map_store.specs.Contracts.{Stamped, Put}
-use Rattle.map_store.specs.Laws.{lent, room-lent, place-none, place-found, rowed-found, commit-bad-shape, commit-turned-down, commit-carried-out}
-use Rattle.map_store.specs.RowLaws.{length-firsts}
+use Rattle.map_store.specs.Laws.{lent, place-none, place-found, rowed-found}
 use Rattle.map_store.specs.Tests.{say, commit-unknown, commit-later, commit-conflict, commit-room, commit-done}
-use Rattle.map_store.proofs.commit.commit.Statement.{statement}
-use Rattle.map_store.proofs.commit.commit.Tie as tie
+use Rattle.map_commit.specs.Commit.{Stamped, Put, room-lent, commit-bad-shape, commit-turned-down, commit-carried-out}
+use Rattle.map_commit.specs.RowLaws.{length-firsts}
+use Rattle.map_commit.proofs.commit.Statement.{statement}
+use Rattle.map_commit.proofs.commit.Tie as tie
 
 -- the rows that count are written, and the slot that was found is freed
 freed : (n t : ℕ) (h : MapHead) (ks ts vs ks' ts' vs' : List ℕ) (f : Found) → f ≡ slotOf (h .slots) n → (i : ℕ) → f ≡ At i → (r : ℕ)
