@@ -16,12 +16,13 @@ use Rattle.rules.specs.Bools.{split}
 use Rattle.rules.specs.Listing.{list-lists, lists-unique}
 use Rattle.history.specs.History.{Runner, Deed, Did, numbers, history, aborting, restarted, valueIn, reads, listIn}
 use Rattle.history.specs.Refusals.{lastIn}
-use Rattle.history.specs.Sequences.{Course, lose, recovered}
+use Rattle.history.specs.Course.{Course, lose, recovered}
 use Rattle.history.specs.Listed.{history-lists}
 use Rattle.history.specs.RefusedAlike.{snapshot-low, begun-of}
 use Rattle.history.specs.Recovered.{survivors-none}
 use Rattle.history.specs.Replayed.{whole}
-use Rattle.history.specs.Told.{value-told, last-told, tells, read-told}
+use Rattle.history.specs.Told.{value-told, last-told}
+use Rattle.history.specs.Whole.{tells, read-told}
 use Rattle.history.specs.Tied.{Tied, tied-restart, now, good-now, low-now, next-above}
 use Rattle.history.specs.Room.{running-none}
 

@@ -25,10 +25,7 @@ use Rattle.journal_store.specs.Checkpoint.{checkpointNumber, Checkpointed}
 use Rattle.journal_store.specs.Recover.{recoverReply, Recovered}
 use Rattle.history.specs.History.{Change, Runner, History, Deed, Did, numbers, changesOf, changed, history, valueIn, listIn}
 use Rattle.history.specs.Refusals.{lastIn, timeRefused, refusalIn, lookupNumber}
-use Rattle.history.specs.Replayed.{whole}
-use Rattle.history.specs.Lawful.{Lawful, went, sound}
-use Rattle.history.specs.Told.{tells}
-use Rattle.history.specs.RefusalsTold.{refused-told}
+use Rattle.history.specs.Lawful.{Lawful, went}
 use Rattle.history.specs.Listed.{history-lists}
 use Rattle.history.specs.Silence.{latest-low}
 use Rattle.history.specs.Cells.{Cells, end, Lent, Shows, Reached}
@@ -45,7 +42,7 @@ newest-change n c (r ∷ rs) h =
 
 -- deeds that were accepted are ones that the history does not refuse
 not-refused : {d : Deed} {ds : List Deed} → Lawful (d ∷ ds) → refusalIn d (history ds) ≡ 0
-not-refused {d} {ds} (went ok e) = sym (refused-told (history ds) (whole ds) (sound ok) (tells ok) d) ∙ e
+not-refused (went ok e) = e
 
 before : {d : Deed} {ds : List Deed} → Lawful (d ∷ ds) → Lawful ds
 before (went ok e) = ok

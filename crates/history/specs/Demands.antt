@@ -27,15 +27,14 @@ use Rattle.journal_store.specs.Checkpoint.{checkpointNumber}
 use Rattle.history.specs.History.{Commitment, History, Deed, Did, Checkpointed, numbers, history, valueIn, reads, listIn, writtenBy, isPresent}
 use Rattle.history.specs.Refusals.{lastIn, timeRefused, refusalIn, givesIn, needIn, numberIn, lookupNumber, readNumber}
 use Rattle.history.specs.Listed.{value-present, history-lists}
-use Rattle.history.specs.Replayed.{whole}
-use Rattle.history.specs.Lawful.{sound}
-use Rattle.history.specs.Told.{tells}
-use Rattle.history.specs.RefusalsTold.{length-numbers, refused-told}
+use Rattle.history.specs.RefusalsTold.{length-numbers}
+use Rattle.history.specs.Whole.{whole-refuses}
 use Rattle.history.specs.Tied.{refused-alike}
 use Rattle.history.specs.Allowed.{refused}
 use Rattle.history.specs.Answered.{lists, looksUp, readsIn, low-same, last-same, next-same, running-same, value-same, list-same, read-same}
+use Rattle.history.specs.Meant.{courseOf}
 use Rattle.history.specs.Cells.{Cells, meaningOf, end, Lent, Shows, Reached}
-use Rattle.history.specs.Lent.{courseOf, told-same, shows-same, tie, lent-passes, lent-meaning}
+use Rattle.history.specs.Lent.{told-same, shows-same, tie, lent-passes, lent-meaning}
 
 -- The history's list has every register written by a transaction committed at or before t, and no other; each with the history's value, once, keys rising.
 pub list-has : (cs : List Commitment) (t : ℕ)
@@ -75,8 +74,7 @@ module _ {room : ℕ → Type 0} {ds : List Deed} {since : ℕ} {x : Cells} (r :
 
   pub refused-is : (d : Deed) → refused d (meaningOf x) ≡ refusalIn d (history ds)
   refused-is d =
-      let ok = tie r .lawful in
-      refused-alike (courseOf ds since x) (tie r) d ∙ refused-told (history ds) (whole ds) (sound ok) (tells ok) d
+      refused-alike (courseOf ds since x) (tie r) d ∙ whole-refuses (tie r .lawful) d
 
   needed : (c : Call) → need c (meaningOf x) ≡ needIn c (history ds)
   needed (Begin t) = rw (running-is, length-numbers (history ds .runners))

@@ -1,24 +1,24 @@
 -- ENDING IS POSSIBLE. Rule 3.11 on the cells that the contracts speak of: where every call that writes a record is lent a journal of the same length,
 -- a running transaction can always be ended by abort, and abort and commit never get 12. Assumes nothing.
-use mathlib.Core.Path.{_≡_, ap, sym, _∙_, subst}
+use mathlib.Core.Path.{_≡_, ap, sym, _∙_}
 use mathlib.Core.Bool.{true}
 use mathlib.Core.List.{List}
 use mathlib.Core.Logic.{_≢_}
-use Prim.Native.Nat.{ℕ}
+use Prim.Native.Nat.{ℕ, _+_, _≤_}
 use native.Mathlib.Omega.{arith}
-use lib.Dec.{leb}
+use lib.Dec.{eqb, leb}
 use lib.ListN.{length}
+use borrow.Author.Tests.{eqb-true, le-leb}
 use Rattle.rules.specs.Bools.{split}
 use Rattle.rules.specs.Transactions.{runs}
 use Rattle.rules.specs.Lists.{among}
 use Rattle.rules.specs.Running.{running-runs}
+use Rattle.rules.specs.RoomLaws.{fewer}
 use Rattle.rules.specs.Conflicts.{conflict}
 use Rattle.rules.specs.Calls.{Store, lastOf, Call, Abort, Commit, refusal, answer}
 use Rattle.journal_store.specs.Shape.{roomOf}
 use Rattle.journal_store.specs.Write.{number}
 use Rattle.history.specs.History.{Deed, numbers, history}
-use Rattle.history.specs.Sequences.{Course}
-use Rattle.history.specs.Meanings.{abort-accepted, commit-has-room}
 use Rattle.history.specs.Cells.{Cells, meaningOf, end, Lent, Reached}
 use Rattle.history.specs.Meant.{meant}
 use Rattle.history.specs.Lent.{lent-passes, lent-meaning}
@@ -43,17 +43,19 @@ module _ (bytes : ℕ) {ds : List Deed} {since : ℕ} {x : Cells} (r : Reached (
       rw (lent-passes r keys values journal l)
       (ap (answer (roomOf (length journal)) c) (lent-meaning r keys values journal l) ∙ ap (λ (i : ℕ). answer (roomOf i) c (meaningOf x)) same)
 
+  -- a running transaction has a free record
+  one-free : (n : ℕ) → runs n (meaningOf x .records) ≡ true → length (meaningOf x .records) + 1 ≤ roomOf bytes
+  one-free n u = omega (arith, meant r .steady bytes (λ i e. e), fewer n (meaningOf x .records) u)
+
   aborts : (n : ℕ) → runs n (meaningOf x .records) ≡ true → answer (roomOf bytes) (Abort n) (meaningOf x) ≡ 0
-  aborts n =
-      let m = meant r in
-      subst (λ (y : Course). runs n (y .store .records) ≡ true → answer (roomOf bytes) (Abort n) (y .store) ≡ 0) (m .course)
-      (λ u. abort-accepted (roomOf bytes) (m .events) (m .steady bytes (λ i e. e)) n u)
+  aborts n u = rw (u, le-leb (length (meaningOf x .records) + 1) (roomOf bytes) (one-free n u))
 
   commits : (n t : ℕ) → runs n (meaningOf x .records) ≡ true → answer (roomOf bytes) (Commit n t) (meaningOf x) ≡ refusal (Commit n t) (meaningOf x)
-  commits n t =
-      let m = meant r in
-      subst (λ (y : Course). runs n (y .store .records) ≡ true → answer (roomOf bytes) (Commit n t) (y .store) ≡ refusal (Commit n t) (y .store)) (m .course)
-      (λ u. commit-has-room (roomOf bytes) (m .events) (m .steady bytes (λ i e. e)) n u t)
+  commits n t u =
+      let number-is : ℕ = refusal (Commit n t) (meaningOf x) in
+      split (eqb number-is 0)
+      (λ e. rw (e, le-leb (length (meaningOf x .records) + 1) (roomOf bytes) (one-free n u)) (sym (eqb-true number-is 0 e)))
+      (λ e. rw e)
 
   -- Abort of a running transaction is accepted.
   pub ending-is-possible : (n : ℕ) → among n (numbers (history ds .runners)) ≡ true → number (Abort n) (x .head) keys values journal ≡ 0

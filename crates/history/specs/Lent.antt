@@ -1,5 +1,5 @@
 -- What lent cells of a store that calls reach mean, and what its answers are then. Assumes nothing.
-use mathlib.Core.Path.{_≡_, refl, ap, sym, _∙_, subst}
+use mathlib.Core.Path.{_≡_, refl, ap, sym, _∙_}
 use mathlib.Core.Bool.{Bool, true, cond}
 use mathlib.Core.List.{List, _++_}
 use Prim.Native.Nat.{ℕ, _+_}
@@ -16,14 +16,9 @@ use Rattle.answer.specs.Reply.{Reply, told, after}
 use Rattle.journal_store.specs.Shape.{Shaped, isShaped, meaning}
 use Rattle.journal_store.specs.ShapeLaws.{shape-passes}
 use Rattle.history.specs.History.{Deed}
-use Rattle.history.specs.Sequences.{Course}
-use Rattle.history.specs.Tied.{Tied, tied}
+use Rattle.history.specs.Tied.{Tied}
 use Rattle.history.specs.Cells.{Cells, meaningOf, end, Lent, Shows, Reached}
-use Rattle.history.specs.Meant.{held-meaning, meant}
-
--- the store, its deeds and its records since, as the proofs on meanings have them
-abbrev pub courseOf : List Deed → ℕ → Cells → Course
-courseOf ds since x = record { store = meaningOf x; deeds = ds; since = since }
+use Rattle.history.specs.Meant.{courseOf, held-meaning, meant}
 
 -- a reply whose number is the same, and whose value is the same where the call is accepted
 pub told-same : (n m : ℕ) (v w : Value) → n ≡ m → (n ≡ 0 → v ≡ w) → told n v ≡ told m w
@@ -67,7 +62,7 @@ shows-alike rows n listed contents a listed' contents' b listed'' contents'' p q
 module _ {room : ℕ → Type 0} {ds : List Deed} {since : ℕ} {x : Cells} (r : Reached room ds since x) where
   -- the invariant of sequences holds of what the cells mean
   pub tie : Tied (courseOf ds since x)
-  tie = let m = meant r in subst Tied (m .course) (tied (m .events))
+  tie = meant r .tie
 
   module _ (keys values journal : List ℕ) (l : Lent x (end x) keys values journal) where
     pub lent-shaped : Shaped (x .head) (length keys) (length values) (length journal)

@@ -10,8 +10,9 @@ pub mod Corollaries
 pub mod MapCells
 pub mod MapDemands
 pub mod Examples
--- The same on what a journal store means: its sequences and their invariant.
-pub mod Sequences
+-- The same on what a journal store means: the invariant of its sequences.
+pub mod Lawful
+pub mod Course
 pub mod Good
 pub mod Judged
 pub mod Numbers
@@ -24,13 +25,13 @@ pub mod Recovered
 pub mod Listed
 pub mod Replayed
 pub mod Allowed
-pub mod Lawful
+pub mod Sound
 pub mod Told
 pub mod RefusalsTold
+pub mod Whole
 pub mod Tied
 pub mod Room
 pub mod Answered
-pub mod Meanings
 -- And on what a map store means.
 pub mod Maps
 pub mod MapVersions

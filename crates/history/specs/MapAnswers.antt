@@ -30,9 +30,11 @@ use Rattle.history.specs.KeptAlike.{fresh, not-held}
 use Rattle.history.specs.RefusedAlike.{snapshot-last, hold-none, begun-of}
 use Rattle.history.specs.Numbers.{above-top}
 use Rattle.history.specs.Replayed.{replayed, whole}
-use Rattle.history.specs.Allowed.{refused, Allowed, may-begin, may-update, may-abort, may-commit, may-checkpoint, allowed}
-use Rattle.history.specs.Lawful.{Lawful, start, went, Sound, sound-last, sound}
-use Rattle.history.specs.Maps.{mapRefused, mapDid, mapped, mapAccepts}
+use Rattle.history.specs.Allowed.{refused, Allowed, may-begin, may-update, may-abort, may-commit, may-checkpoint}
+use Rattle.history.specs.Lawful.{Lawful, start, went}
+use Rattle.history.specs.Sound.{Sound, sound-last}
+use Rattle.history.specs.Whole.{sound, lawful-allowed}
+use Rattle.history.specs.Maps.{mapRefused, mapDid, mapped}
 use Rattle.history.specs.MapPlaces.{has-among, holds-not, holds-none}
 use Rattle.history.specs.MapAgrees.{Says, idle, busy, Agree, Sane, agree-begin, agree-abort, agree-commit, current-is, agree-update, agree-checkpoint}
 use Rattle.map_store.specs.Meaning as map
@@ -165,13 +167,7 @@ agree start =
       touches = λ s k l. refl;
       orders = refl;
     }
-agree (went {d = d} {ds = ds} l e) = agree-deed (mapped ds) (whole ds) (agree l) (sane (whole ds) (sound l)) (sound l .one) (allowed (whole ds) d e)
-
--- a map that is given lawful deeds refuses none of them
-pub map-accepts : {ds : List Deed} → Lawful ds → mapAccepts ds ≡ true
-map-accepts start = refl
-map-accepts (went {d = d} {ds = ds} l e) =
-    rw (map-refused (mapped ds) (whole ds) (agree l) (sane (whole ds) (sound l)) (sound l .one) d, e) (map-accepts l)
+agree (went {d = d} {ds = ds} l e) = agree-deed (mapped ds) (whole ds) (agree l) (sane (whole ds) (sound l)) (sound l .one) (lawful-allowed l {d = d} e)
 
 -- a read in the map is a read in the whole journal
 pub map-read : {ds : List Deed} → Lawful ds → (n k : ℕ) → runs n (whole ds .records) ≡ true → 1 ≤ k

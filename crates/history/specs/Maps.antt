@@ -1,9 +1,7 @@
 -- The map store that is given the same deeds as a journal store: the accepted calls and checkpoints, with an abort for each transaction that a restart
 -- ended. Assumes nothing.
-use mathlib.Core.Bool.{Bool, true, _&&_}
 use mathlib.Core.List.{List, [], _∷_}
 use Prim.Native.Nat.{ℕ}
-use lib.Dec.{eqb}
 use Rattle.map_store.specs.Meaning.{MapStore, emptyMap, mapRefusal, mapAfter}
 use Rattle.history.specs.History.{Deed, Did, Checkpointed}
 use Rattle.map_store.specs.Meaning as map
@@ -22,8 +20,3 @@ mapDid (Checkpointed t) m = map.checkpointed t m
 abbrev pub mapped : List Deed → MapStore
 mapped [] = emptyMap
 mapped (d ∷ older) = mapDid d (mapped older)
-
--- it refuses none of them, room apart
-abbrev pub mapAccepts : List Deed → Bool
-mapAccepts [] = true
-mapAccepts (d ∷ older) = eqb (mapRefused d (mapped older)) 0 && mapAccepts older

@@ -1,5 +1,5 @@
--- The cells that calls reach mean what the same events reach on meanings, and their shape is good: what is proved of records, rows and times holds of
--- the bytes and columns. Assumes nothing.
+-- The one induction over sequences: what the cells that calls reach mean is tied to the history of the accepted deeds, and their shape is good.
+-- Assumes nothing.
 use mathlib.Core.Path.{_≡_, refl, ap, sym, _∙_, subst}
 use mathlib.Core.Bool.{true, not, _&&_}
 use mathlib.Core.List.{List, [], _∷_, _++_}
@@ -18,7 +18,9 @@ use Rattle.rules.specs.Lists.{rowKeys}
 use Rattle.rules.specs.Columns.{rowValues}
 use Rattle.rules.specs.Checkpoints.{kept}
 use Rattle.rules.specs.Recovery.{survivors}
-use Rattle.rules.specs.Calls.{Store, nextOf, Call, recordOf, answer, checkpointAnswer, push, checkpointed}
+use Rattle.rules.specs.Calls.{Store, nextOf, Call, recordOf, refusal, checkpointRefusal, need, answer, checkpointAnswer}
+use Rattle.rules.specs.Passed.{fitting}
+use Rattle.rules.specs.RoomLaws.{Roomy, room-for-each}
 use Rattle.record.specs.Bytes.{Bytes, newest, appended}
 use Rattle.record.specs.Laws.{newest-front, length-newest, drop-newest}
 use Rattle.answer.specs.Reply.{Reply, after}
@@ -32,18 +34,22 @@ use Rattle.journal_store.specs.Recover.{risingKeys, journalBytes, isRecoverable
 use Rattle.journal_store.specs.Tie.{SizedCall, fit-call, push-meaning, checkpoint-meaning, recover-meaning}
 use Rattle.journal_store.specs.ShapeLaws.{call-shaped, checkpoint-shaped, recover-shaped}
 use Rattle.history.specs.History.{Deed, Did, Checkpointed, restarted}
-use Rattle.history.specs.Sequences.{Event, Called, Checkpoint, Restart, Course, lose, recovered, ifAccepted, happen, reached, Ever, never, called, checkpointed-at, restarted-with}
+use Rattle.history.specs.Course.{Course, lose, recovered}
+use Rattle.history.specs.Tied.{Tied, tied-restart, tied-call, tied-checkpoint, tied-start}
+use Rattle.history.specs.Room.{room-checkpoint, room-restart}
 use Rattle.history.specs.Cells.{Cells, meaningOf, end, Holds, Cut, lost, Reached}
-use Rattle.history.specs.Meanings.{floor-in-range, cut-goes-on}
 use Rattle.history.specs.Cells as cells
 use Rattle.journal_store.specs.Checkpoint as checkpoint
 
--- events on meanings that lead to the store that the cells mean, with the same deeds; with the same room where the calls had the same room
+-- the store, its deeds and its records since, as the proofs on meanings have them
+abbrev pub courseOf : List Deed → ℕ → Cells → Course
+courseOf ds since x = record { store = meaningOf x; deeds = ds; since = since }
+
+-- what the cells mean is tied to the history of the deeds; where the calls had the same room, each running transaction has a free record
 pub record Meant (room : ℕ → Type 0) (ds : List Deed) (since : ℕ) (x : Cells) : Type 0 where
-  pub events : List Event
-  pub course : reached events ≡ record { store = meaningOf x; deeds = ds; since = since }
+  pub tie : Tied (courseOf ds since x)
   pub shaped : Shaped (x .head) (length (x .keys)) (length (x .values)) (length (x .journal))
-  pub steady : (bytes : ℕ) → ((n : ℕ) → room n → n ≡ bytes) → Ever (roomOf bytes) events
+  pub steady : (bytes : ℕ) → ((n : ℕ) → room n → n ≡ bytes) → Roomy (roomOf bytes) (meaningOf x)
 
 -- the first records are read from the first bytes
 newest-prefix : (n m : ℕ) (b : List ℕ) → n * recordBytes ≤ m → m ≤ length b → newest n (take m b) ≡ newest n b
@@ -107,14 +113,21 @@ module _ {room : ℕ → Type 0} {ds : List Deed} {since : ℕ} {x : Cells} (m :
         let k = need-some c s in
         let i = min-le-right 2048 (length journal / recordBytes) in
         let p = push-meaning (x .head) keys values journal (recordOf c s) (fit-call c s z) (omega arith) in
+        let y : courseOf ds since x ≡ record { store = s; deeds = ds; since = since } = ap (λ (t : Store). record { store = t; deeds = ds; since = since }) (sym q) in
+        let ok = fitting (refusal c s) (length (s .records) + need c s) (roomOf (length journal)) a .0 in
         record {
-          events = Called (roomOf (length journal)) c ∷ m .events;
-          course =
-              ap (happen (Called (roomOf (length journal)) c)) (m .course ∙ ap (λ (t : Store). record { store = t; deeds = ds; since = since }) (sym q))
-              ∙ ap (λ (n : ℕ). ifAccepted n (record { store = push (recordOf c s) s; deeds = Did c ∷ ds; since = suc since }) (record { store = s; deeds = ds; since = since })) a
-              ∙ ap (λ (t : Store). record { store = t; deeds = Did c ∷ ds; since = suc since }) (sym p);
+          tie =
+              subst (λ (t : Store). Tied (record { store = t; deeds = Did c ∷ ds; since = suc since })) (sym p)
+              (tied-call (record { store = s; deeds = ds; since = since }) (subst Tied y (m .tie)) c ok);
           shaped = call-shaped (x .head) keys values journal w c a;
-          steady = λ bytes all. rw (all (length journal) r) (called c (m .steady bytes all));
+          steady =
+              λ bytes all.
+              let e : length journal ≡ bytes = all (length journal) r in
+              let k : Roomy (roomOf (length journal)) s =
+              subst (λ (i : ℕ). Roomy (roomOf i) s) (sym e) (subst (Roomy (roomOf bytes)) (sym q) (m .steady bytes all))
+              in
+              subst (λ (i : ℕ). Roomy (roomOf i) (meaningOf longer)) e
+              (subst (Roomy (roomOf (length journal))) (sym p) (room-for-each (roomOf (length journal)) s k c a));
         }
 
     pub meant-called : (a : Reply) (head : Head) (journal' : List ℕ) → Wrote c (x .head) keys values journal a head journal'
@@ -156,20 +169,21 @@ module _ {room : ℕ → Type 0} {ds : List Deed} {since : ℕ} {x : Cells} (m :
         let w = shape (x .head) (length keys) (length values) (length journal) b in
         let q = held-meaning x keys values journal (m .shaped) w (h b) in
         let a : checkpointAnswer (rowRoom (length keys)) T before ≡ 0 = rw b at e in
-        let es = Checkpoint (rowRoom (length keys)) T ∷ m .events in
         let p = checkpoint-meaning T (x .head) keys values journal small spelled in
-        let y : reached es ≡ record { store = checkpointed T before; deeds = Checkpointed T ∷ ds; since = 0 } =
-        ap (happen (Checkpoint (rowRoom (length keys)) T)) (m .course ∙ ap (λ (t : Store). record { store = t; deeds = ds; since = since }) (sym q))
-        ∙ ap
-        (λ (n : ℕ). ifAccepted n (record { store = checkpointed T before; deeds = Checkpointed T ∷ ds; since = 0 }) (record { store = before; deeds = ds; since = since }))
-        a
+        let y : courseOf ds since x ≡ record { store = before; deeds = ds; since = since } =
+        ap (λ (t : Store). record { store = t; deeds = ds; since = since }) (sym q)
         in
-        let some : nextOf before ≡ 0 → ⊥ = λ z. let f = subst (λ (y : Course). 1 ≤ y .store .floor) y (floor-in-range es .0) in omega arith in
+        let h' = subst Tied y (m .tie) in
+        let ok = fitting (checkpointRefusal T before) (length (listOf T before)) (rowRoom (length keys)) a .0 in
+        let tied = tied-checkpoint (record { store = before; deeds = ds; since = since }) h' T ok in
+        let some : nextOf before ≡ 0 → ⊥ = λ z. let f = tied .floored in omega arith in
         record {
-          events = es;
-          course = y ∙ ap (λ (t : Store). record { store = t; deeds = Checkpointed T ∷ ds; since = 0 }) (sym p);
+          tie = subst (λ (t : Store). Tied (record { store = t; deeds = Checkpointed T ∷ ds; since = 0 })) (sym p) tied;
           shaped = checkpoint-shaped (x .head) keys values journal w T a some;
-          steady = λ bytes all. checkpointed-at (rowRoom (length keys)) T (m .steady bytes all);
+          steady =
+              λ bytes all.
+              let k = subst (Roomy (roomOf bytes)) (sym q) (m .steady bytes all) in
+              subst (Roomy (roomOf bytes)) (sym p) (room-checkpoint (roomOf bytes) (record { store = before; deeds = ds; since = since }) h' k T ok);
         }
 
     pub meant-checkpointed : (a : Reply) (head : Head) (keys' values' journal' : List ℕ)
@@ -222,21 +236,18 @@ module _ {room : ℕ → Type 0} {ds : List Deed} {since : ℕ} {x : Cells} (m :
         (λ b. let z : _≡_ {A = ℕ} 1 0 = rw b at e in absurd (omega arith))
         in
         let w = recoverable (x .head) keys (length values) (length journal) survived b in
-        let es = Restart (lost x survived) ∷ m .events in
         let l : lost x survived ≤ since = omega (arith, cut .late) in
-        let y : reached es ≡ record { store = recovered (lose (lost x survived) (meaningOf x)); deeds = restarted (lost x survived) ds; since = 0 } =
-        cut-goes-on (m .events) (lost x survived) (subst (λ (y : Course). lost x survived ≤ y .since) (sym (m .course)) l)
-        ∙ ap (λ (y : Course). record { store = recovered (lose (lost x survived) (y .store)); deeds = restarted (lost x survived) (y .deeds); since = 0 }) (m .course)
-        in
         let q = restored-meaning w (h b) in
-        let z = y ∙ ap (λ (t : Store). record { store = t; deeds = restarted (lost x survived) ds; since = 0 }) (sym q) in
-        let some : next (x .head .floor) left ≡ 0 → ⊥ = λ i. let f = subst (λ (y : Course). 1 ≤ y .store .floor) z (floor-in-range es .0) in omega arith in
+        let tied = tied-restart (courseOf ds since x) (m .tie) (lost x survived) l in
+        let z = subst (λ (t : Store). Tied (record { store = t; deeds = restarted (lost x survived) ds; since = 0 })) (sym q) tied in
+        let some : next (x .head .floor) left ≡ 0 → ⊥ = λ i. let f = z .floored in omega arith in
         let p = paired (x .head) keys (length values) (length journal) survived b in
         record {
-          events = es;
-          course = z;
+          tie = z;
           shaped = recover-shaped (x .head) keys values journal survived (m .shaped .rowsLimit) (p .0) (p .1) w some;
-          steady = λ bytes all. restarted-with (lost x survived) (m .steady bytes all);
+          steady =
+              λ bytes all.
+              subst (Roomy (roomOf bytes)) (sym q) (room-restart (roomOf bytes) (courseOf ds since x) (m .tie) (m .steady bytes all) (lost x survived));
         }
 
     pub meant-recovered : (a : Reply) (head : Head) (journal' : List ℕ) → Recovered (x .head) keys values journal survived a head journal'
@@ -256,11 +267,10 @@ module _ {room : ℕ → Type 0} {ds : List Deed} {since : ℕ} {x : Cells} (m :
 pub meant : {room : ℕ → Type 0} {ds : List Deed} {since : ℕ} {x : Cells} → Reached room ds since x → Meant room ds since x
 meant cells.start =
     record {
-      events = [];
-      course = refl;
+      tie = tied-start;
       shaped =
           record { rowsLimit = omega arith; rows = omega arith; paired = refl; usedLimit = omega arith; used = omega arith; floored = λ e. omega arith };
-      steady = λ bytes all. never;
+      steady = λ bytes all. omega arith;
     }
 meant (cells.called r c z keys values journal l h a head journal' w) = meant-called (meant r) c z keys values journal l h a head journal' w
 meant (cells.checkpointed r T small keys values journal bytes h a head keys' values' journal' w) =

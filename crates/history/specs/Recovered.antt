@@ -17,7 +17,7 @@ use Rattle.rules.specs.Recovery.{accepts, done, only, survivors}
 use Rattle.rules.specs.Calls.{Store, nextOf}
 use Rattle.rules.specs.Bools.{split, or-right, not-both, and-false}
 use Rattle.journal.specs.Past.{low-last}
-use Rattle.history.specs.Sequences.{recovered}
+use Rattle.history.specs.Course.{recovered}
 use Rattle.history.specs.Good.{Good}
 use Rattle.history.specs.Judged.{good-accepts, accepts-good}
 use Rattle.history.specs.Kept.{Fitting, last-sift, value-sift}

@@ -77,6 +77,20 @@ needIn (Commit n t) h = 1
 abbrev pub numberIn : ℕ → ℕ → Call → History → ℕ
 numberIn used room c h = withRoom (refusalIn (Did c) h) (used + needIn c h) room
 
+-- the number that a deed gets in a map store with so many used versions and room for so many: a commit alone needs room, a row for each key
+abbrev pub mapNumberIn : ℕ → ℕ → Deed → History → ℕ
+mapNumberIn used room (Did (Begin t)) h = refusalIn (Did (Begin t)) h
+mapNumberIn used room (Did (Update n k e)) h = refusalIn (Did (Update n k e)) h
+mapNumberIn used room (Did (Abort n)) h = refusalIn (Did (Abort n)) h
+mapNumberIn used room (Did (Commit n t)) h =
+    withRoom (refusalIn (Did (Commit n t)) h) (used + length (distinctKeys (changesOf n (h .runners)))) room
+mapNumberIn used room (Checkpointed t) h = refusalIn (Checkpointed t) h
+
+-- what an accepted deed gives
+abbrev pub deedGives : Deed → History → Value
+deedGives (Did c) h = givesIn c h
+deedGives (Checkpointed t) h = Absent
+
 -- the numbers that a lookup and a read get
 abbrev pub lookupNumber : ℕ → ℕ → History → ℕ
 lookupNumber k t h = cond (eqb k 0) 3 (timeRefused t h 0)

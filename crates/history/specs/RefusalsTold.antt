@@ -22,14 +22,14 @@ use Rattle.history.specs.Good.{begin, update, commit, abort, Good, none,
 use Rattle.history.specs.KeptAlike.{not-held}
 use Rattle.history.specs.RefusedAlike.{hold-none, begun-of}
 use Rattle.history.specs.Allowed.{refused}
-use Rattle.history.specs.Lawful.{Sound, sound-next}
+use Rattle.history.specs.Sound.{Sound, sound-next}
 use Rattle.history.specs.Told.{changesIn, commitmentsIn, Tells, last-told, runner}
 
 wrote-told : (k : ℕ) (own : List Record) → wrote k own ≡ changes k (changesIn own)
 wrote-told k [] = refl
 wrote-told k (r ∷ own) = split (isUpdate r) (λ u. rw (u, wrote-told k own)) (λ u. rw (u, wrote-told k own))
 
-keys-told : (own : List Record) → keysWritten own ≡ distinctKeys (changesIn own)
+pub keys-told : (own : List Record) → keysWritten own ≡ distinctKeys (changesIn own)
 keys-told [] = refl
 keys-told (r ∷ own) =
     split (isUpdate r)

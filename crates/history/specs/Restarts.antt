@@ -32,14 +32,13 @@ use Rattle.journal_store.specs.Recover.{risingKeys, journalBytes, isRecoverable
 use Rattle.journal_store.specs.Tie.{recover-meaning}
 use Rattle.history.specs.History.{Deed, numbers, history, restarted, valueIn, listIn}
 use Rattle.history.specs.Refusals.{timeRefused, lookupNumber}
-use Rattle.history.specs.Sequences as sequences
 use Rattle.history.specs.Judged.{good-accepts}
 use Rattle.history.specs.Recovered.{recovered-again}
 use Rattle.history.specs.Tied.{cut-good}
 use Rattle.history.specs.Answered.{aborting-low, restarted-commitments, restarted-runners}
 use Rattle.history.specs.Cells.{Cells, meaningOf, end, Lent, Shows, Cut, lost, Reached, recovered}
-use Rattle.history.specs.Meant.{meant, survived-records}
-use Rattle.history.specs.Lent.{courseOf, shows-alike, tie, own}
+use Rattle.history.specs.Meant.{courseOf, meant, survived-records}
+use Rattle.history.specs.Lent.{shows-alike, tie, own}
 use Rattle.history.specs.Demands.{list-answers, looks-up-the-history}
 
 -- rising rows have rising keys

@@ -14,8 +14,9 @@ use Rattle.journal_store.specs.List.{ListedBy}
 use Rattle.history.specs.History.{Commitment, History, Deed, Did, Checkpointed, recalled, history, latest, listIn}
 use Rattle.history.specs.Refusals.{lastIn, timeRefused, refusalIn}
 use Rattle.history.specs.Replayed.{whole}
-use Rattle.history.specs.Lawful.{Lawful, sound}
-use Rattle.history.specs.Told.{last-told, tells}
+use Rattle.history.specs.Lawful.{Lawful}
+use Rattle.history.specs.Told.{last-told}
+use Rattle.history.specs.Whole.{sound, tells}
 use Rattle.history.specs.Cells.{Cells, end, Lent, Reached}
 use Rattle.history.specs.Lent.{shows-same, shows-alike, tie}
 use Rattle.history.specs.Demands.{list-answers}

@@ -1,13 +1,11 @@
--- The invariant of every sequence: the store answers as the whole journal of its deeds, and its own journal is one that the walk accepts, also where
+-- The invariant of every sequence, step by step: the store answers as the whole journal of its deeds, and its own journal is one that the walk accepts, also where
 -- the newest records since the latest checkpoint, restart or start are cut off. Assumes nothing.
 use mathlib.Core.Path.{_≡_, refl, ap, sym, _∙_, subst}
 use mathlib.Core.Bool.{true, false≢true}
 use mathlib.Core.List.{List, [], _∷_}
-use Prim.Native.Nat.{ℕ, zero, suc, _+_, _≤_, min}
+use Prim.Native.Nat.{ℕ, zero, suc, _≤_}
 use native.Mathlib.Omega.{arith}
-use lib.Dec.{eqb}
-use lib.ListN.{length, drop}
-use borrow.Author.Tests.{eqb-true}
+use lib.ListN.{drop}
 use Rattle.rules.specs.declared.Record.{Record}
 use Rattle.rules.specs.declared.Value.{Value}
 use Rattle.rules.specs.declared.Value.the-variants.{Absent}
@@ -19,14 +17,12 @@ use Rattle.rules.specs.Values.{rowValue}
 use Rattle.rules.specs.Lists.{rising, listAt}
 use Rattle.rules.specs.Checkpoints.{kept}
 use Rattle.rules.specs.Recovery.{survivors}
-use Rattle.rules.specs.Calls.{Store, nextOf, Call, Begin, Update, Abort, Commit, recordOf, refusal, checkpointRefusal, need, answer, checkpointAnswer, push, checkpointed}
-use Rattle.rules.specs.Passed.{fitting}
+use Rattle.rules.specs.Calls.{Store, empty, nextOf, Call, Begin, Update, Abort, Commit, recordOf, refusal, checkpointRefusal, push, checkpointed}
 use Rattle.rules.specs.Bools.{split}
 use Rattle.rules.specs.Listing.{list-lists}
 use Rattle.history.specs.History.{Deed, Did, Checkpointed, numbers, history, restarted}
-use Rattle.history.specs.Sequences.{Event, Called, Checkpoint, Restart, Course, lose, recovered, happen, reached}
+use Rattle.history.specs.Course.{Course, lose, recovered}
 use Rattle.history.specs.Good.{Step, begin, update, commit, abort, Good, none, more}
-use Rattle.history.specs.Judged.{good-accepts}
 use Rattle.history.specs.Alike.{Alike, alike-begin, alike-update, alike-abort, alike-commit}
 use Rattle.history.specs.KeptAlike.{alike-checkpoint, good-checkpoint}
 use Rattle.history.specs.RecoveredAlike.{good-recover, alike-recover}
@@ -35,7 +31,7 @@ use Rattle.history.specs.Numbers.{above-mono, above-least, above-top}
 use Rattle.history.specs.Replayed.{whole, whole-floor}
 use Rattle.history.specs.Allowed.{refused, Allowed, may-begin, may-update, may-abort, may-commit, may-checkpoint, allowed}
 use Rattle.history.specs.Lawful.{Lawful, start, went, lawful-drop}
-use Rattle.history.specs.Told.{tells, lawful-aborting, whole-aborting, low-aborting}
+use Rattle.history.specs.Whole.{tells, whole-refuses, lawful-aborting, whole-aborting, low-aborting}
 
 -- the records written since, and the deeds that wrote them: `i` of them
 pub data Since (low f : ℕ) (mark : List Record) (past : List Deed) : ℕ → List Record → List Deed → Type 0 where
@@ -194,23 +190,27 @@ module _ (y : Course) (h : Tied y) where
         floored = h .floored;
         capped = h .capped;
         sorted = h .sorted;
-        lawful = went (h .lawful) (sym (refused-alike d) ∙ ok);
+        lawful = went (h .lawful) (sym (whole-refuses (h .lawful) d) ∙ sym (refused-alike d) ∙ ok);
       }
 
   -- an accepted call
-  tied-call : {c : Call} → Allowed (y .store) (Did c) → refused (Did c) (y .store) ≡ 0
+  call-tied : {c : Call} → Allowed (y .store) (Did c) → refused (Did c) (y .store) ≡ 0
       → Tied (record { store = push (recordOf c (y .store)) (y .store); deeds = Did c ∷ y .deeds; since = suc (y .since) })
-  tied-call (may-begin t p q u v) ok =
+  call-tied (may-begin t p q u v) ok =
       let n : ℕ = nextOf (y .store) in
       let i = above-mono 1 (y .store .floor) (y .store .records) (h .floored) in
       grow (begun n t) (Did (Begin t)) ok (begin n t (omega (arith, next-above)) (omega arith) p q u) (λ c. omega (arith, next-above)) (rw next-whole)
-  tied-call (may-update n k (Assign v) p q u) ok =
+  call-tied (may-update n k (Assign v) p q u) ok =
       grow (assigned n k v) (Did (Update n k (Assign v))) ok (update n k (Assign v) p q u) (λ c. absurd (false≢true c)) refl
-  tied-call (may-update n k (Add v) p q u) ok =
+  call-tied (may-update n k (Add v) p q u) ok =
       grow (added n k v) (Did (Update n k (Add v))) ok (update n k (Add v) p q u) (λ c. absurd (false≢true c)) refl
-  tied-call (may-abort n p) ok = grow (aborted n) (Did (Abort n)) ok (abort n p) (λ c. absurd (false≢true c)) refl
-  tied-call (may-commit n t p q u) ok =
+  call-tied (may-abort n p) ok = grow (aborted n) (Did (Abort n)) ok (abort n p) (λ c. absurd (false≢true c)) refl
+  call-tied (may-commit n t p q u) ok =
       grow (committed n t) (Did (Commit n t)) ok (commit n t p q u) (λ c. absurd (false≢true c)) refl
+
+  pub tied-call : (c : Call) → refusal c (y .store) ≡ 0
+      → Tied (record { store = push (recordOf c (y .store)) (y .store); deeds = Did c ∷ y .deeds; since = suc (y .since) })
+  tied-call c ok = call-tied (allowed (y .store) (Did c) ok) ok
 
   -- a checkpoint's store answers as the whole journal
   pub alike-checkpointed : {T : ℕ} → Allowed (y .store) (Checkpointed T)
@@ -222,9 +222,9 @@ module _ (y : Course) (h : Tied y) where
       (list-lists (y .store .base) (y .store .records) T .values))
 
   -- an accepted checkpoint
-  pub tied-checkpoint : {T : ℕ} → Allowed (y .store) (Checkpointed T) → refused (Checkpointed T) (y .store) ≡ 0
+  checkpoint-tied : {T : ℕ} → Allowed (y .store) (Checkpointed T) → refused (Checkpointed T) (y .store) ≡ 0
       → Tied (record { store = checkpointed T (y .store); deeds = Checkpointed T ∷ y .deeds; since = 0 })
-  tied-checkpoint (may-checkpoint T l m n) ok =
+  checkpoint-tied (may-checkpoint T l m n) ok =
       record {
         mark = kept T (y .store .records);
         past = Checkpointed T ∷ y .deeds;
@@ -235,33 +235,16 @@ module _ (y : Course) (h : Tied y) where
         floored = rw next-above (omega (arith, h .floored, above-least (y .store .floor) (y .store .records)));
         capped = omega arith;
         sorted = list-lists (y .store .base) (y .store .records) T .rises;
-        lawful = went (h .lawful) (sym (refused-alike (Checkpointed T)) ∙ ok);
+        lawful = went (h .lawful) (sym (whole-refuses (h .lawful) (Checkpointed T)) ∙ sym (refused-alike (Checkpointed T)) ∙ ok);
       }
 
-  -- any event
-  tied-happen : (e : Event) → Tied (happen e y)
-  tied-happen (Called room c) =
-      split (eqb (answer room c (y .store)) 0)
-      (λ x.
-      let ok = fitting (refusal c (y .store)) (length (y .store .records) + need c (y .store)) room (eqb-true (answer room c (y .store)) 0 x) .0 in
-      rw x (tied-call (allowed (y .store) (Did c) ok) ok))
-      (λ x. rw x h)
-  tied-happen (Checkpoint rows t) =
-      split (eqb (checkpointAnswer rows t (y .store)) 0)
-      (λ x.
-      let ok =
-      fitting (checkpointRefusal t (y .store)) (length (listAt (y .store .base) (y .store .records) t)) rows
-      (eqb-true (checkpointAnswer rows t (y .store)) 0 x) .0
-      in
-      rw x (tied-checkpoint (allowed (y .store) (Checkpointed t) ok) ok))
-      (λ x. rw x h)
-  tied-happen (Restart x) =
-      let l : min x (y .since) ≤ y .since = omega arith in
-      rw (good-accepts (cut-good y h (min x (y .since)) l)) (tied-restart y h (min x (y .since)) l)
+  pub tied-checkpoint : (T : ℕ) → checkpointRefusal T (y .store) ≡ 0
+      → Tied (record { store = checkpointed T (y .store); deeds = Checkpointed T ∷ y .deeds; since = 0 })
+  tied-checkpoint T ok = checkpoint-tied (allowed (y .store) (Checkpointed T) ok) ok
 
--- any sequence
-pub tied : (es : List Event) → Tied (reached es)
-tied [] =
+-- the empty store
+pub tied-start : Tied (record { store = empty; deeds = []; since = 0 })
+tied-start =
     record {
       mark = [];
       past = [];
@@ -285,4 +268,3 @@ tied [] =
       sorted = refl;
       lawful = start;
     }
-tied (e ∷ es) = tied-happen (reached es) (tied es) e

@@ -1,5 +1,5 @@
--- The history of lawful deeds is what the whole journal of these deeds says: the same committed transactions with the same changes, the same running
--- ones, the same values. Assumes nothing.
+-- A history tells what a journal says: the same committed transactions with the same changes, the same running ones, the same values; and one deed
+-- more leaves it so. Assumes nothing.
 use mathlib.Core.Path.{_≡_, refl, sym, _∙_, subst}
 use mathlib.Core.Bool.{true, false, cond, false≢true}
 use mathlib.Core.List.{List, [], _∷_}
@@ -15,17 +15,16 @@ use Rattle.rules.specs.Kinds.{isBegin, isUpdate, isCommit, isEnd, begun, assign
 use Rattle.rules.specs.Effects.{effectOf, effects}
 use Rattle.rules.specs.Transactions.{of, runs, snapshot, running}
 use Rattle.rules.specs.Times.{last, above}
-use Rattle.rules.specs.Values.{value, readIn}
+use Rattle.rules.specs.Values.{value}
 use Rattle.rules.specs.Lists.{among}
-use Rattle.rules.specs.Calls.{Store, Begin, Abort, push}
+use Rattle.rules.specs.Calls.{Store, Begin, push}
 use Rattle.rules.specs.Bools.{split, not-both, and-false}
 use Rattle.rules.specs.Running.{without, running-skip, running-end, runs-skip, running-runs}
-use Rattle.history.specs.History.{Change, Commitment, Runner, History, Deed, Did, numbers, changesOf, snapshotOf, changed, ended, recalled, told, history, aborting, making, valueIn, reads, latest}
+use Rattle.history.specs.History.{Change, Commitment, Runner, History, Deed, Did, numbers, changesOf, snapshotOf, changed, ended, recalled, told, making, valueIn, latest}
 use Rattle.history.specs.KeptAlike.{fresh}
-use Rattle.history.specs.RecoveredAlike.{endAll}
-use Rattle.history.specs.Replayed.{replayed, whole}
-use Rattle.history.specs.Allowed.{Allowed, may-begin, may-update, may-abort, may-commit, may-checkpoint, allowed}
-use Rattle.history.specs.Lawful.{Lawful, start, went, Sound, sound-next, sound}
+use Rattle.history.specs.Replayed.{replayed}
+use Rattle.history.specs.Allowed.{Allowed, may-begin, may-update, may-abort, may-commit, may-checkpoint}
+use Rattle.history.specs.Sound.{Sound, sound-next}
 
 -- an update record as a change
 abbrev changeOf : Record → Change
@@ -52,7 +51,7 @@ pub record Tells (h : History) (s : Store) : Type 0 where
   pub snaps : (n : ℕ) → runs n (s .records) ≡ true → snapshotOf n (h .runners) ≡ snapshot n (s .records)
 
 -- values and last, read in a journal and in its committed transactions
-making-effects : (k : ℕ) (own : List Record) (v : Value) → effects k own v ≡ making k (changesIn own) v
+pub making-effects : (k : ℕ) (own : List Record) (v : Value) → effects k own v ≡ making k (changesIn own) v
 making-effects k [] v = refl
 making-effects k (r ∷ own) v =
     split (isUpdate r)
@@ -199,7 +198,7 @@ module _ (h : History) (s : Store) (w : Sound s) (t : Tells h s) where
     end-runs = rw (ended-numbers (r .transaction) (h .runners), b, running-end r e (s .records) (s .records), t .runs-alike)
 
   -- one deed more
-  tells-deed : {d : Deed} → Allowed s d → Tells (told d h) (replayed d s)
+  pub tells-deed : {d : Deed} → Allowed s d → Tells (told d h) (replayed d s)
   tells-deed (may-begin u p q x y) = tells-begin u
   tells-deed (may-update n k (Assign v) p q x) = tells-update (assigned n k v) refl refl refl refl p
   tells-deed (may-update n k (Add v) p q x) = tells-update (added n k v) refl refl refl refl p
@@ -225,44 +224,3 @@ module _ (h : History) (s : Store) (w : Sound s) (t : Tells h s) where
       }
   tells-deed (may-checkpoint u p q x) =
       record { lows = refl; nexts = t .nexts; commits = t .commits; runs-alike = t .runs-alike; own = t .own; snaps = t .snaps }
-
--- lawful deeds
-pub tells : {ds : List Deed} → Lawful ds → Tells (history ds) (whole ds)
-tells start =
-    record { lows = refl; nexts = refl; commits = refl; runs-alike = refl; own = λ n u. absurd (false≢true u); snaps = λ n u. absurd (false≢true u) }
-tells (went {d = d} {ds = ds} l e) = tells-deed (history ds) (whole ds) (sound l) (tells l) (allowed (whole ds) d e)
-
--- a read in the whole journal is a read in the history
-pub read-told : {ds : List Deed} → Lawful ds → (n k : ℕ) → runs n (whole ds .records) ≡ true → readIn [] (whole ds .records) n k ≡ reads (history ds) n k
-read-told {ds} l n k u =
-    let b : List Record = whole ds .records in
-    let t = tells l in
-    rw (t .own n u, t .snaps n u, t .commits, value-told k (snapshot n b) b)
-    (making-effects k (of n b) (valueIn (commitmentsIn b) (snapshot n b) k))
-
--- the aborts of a restart, in the history and in the whole journal
-pub lawful-aborting : (ns : List ℕ) (ds : List Deed) → Lawful ds → Lawful (aborting ns ds)
-lawful-aborting [] ds l = l
-lawful-aborting (n ∷ ns) ds l =
-    split (among n (numbers (history ds .runners)))
-    (λ x.
-    let u : runs n (whole ds .records) ≡ true = sym (runner (history ds) (whole ds) (sound l) (tells l) n) ∙ x in
-    rw x (lawful-aborting ns (Did (Abort n) ∷ ds) (went l (rw u))))
-    (λ x. rw x (lawful-aborting ns ds l))
-
--- in the whole journal
-pub whole-aborting : (ns : List ℕ) (ds : List Deed) → Lawful ds → whole (aborting ns ds) .records ≡ endAll ns (whole ds .records)
-whole-aborting [] ds l = refl
-whole-aborting (n ∷ ns) ds l =
-    let r = runner (history ds) (whole ds) (sound l) (tells l) n in
-    split (among n (numbers (history ds .runners)))
-    (λ x.
-    let u : runs n (whole ds .records) ≡ true = sym r ∙ x in
-    rw (x, u, whole-aborting ns (Did (Abort n) ∷ ds) (went l (rw u))))
-    (λ x. let u : runs n (whole ds .records) ≡ false = sym r ∙ x in rw (x, u, whole-aborting ns ds l))
-
--- low stays
-pub low-aborting : (ns : List ℕ) (ds : List Deed) → whole (aborting ns ds) .low ≡ whole ds .low
-low-aborting [] ds = refl
-low-aborting (n ∷ ns) ds =
-    split (among n (numbers (history ds .runners))) (λ x. rw (x, low-aborting ns (Did (Abort n) ∷ ds))) (λ x. rw (x, low-aborting ns ds))

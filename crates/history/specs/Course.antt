@@ -1,0 +1,21 @@
+-- A point of a sequence, on what a journal store means, and what a restart makes of the store. Assumes nothing.
+use mathlib.Core.List.{List}
+use Prim.Native.Nat.{ℕ}
+use lib.ListN.{drop}
+use Rattle.rules.specs.Recovery.{survivors}
+use Rattle.rules.specs.Calls.{Store, nextOf}
+use Rattle.history.specs.History.{Deed}
+
+-- the store, the deeds that stand, the newest first, and how many records were written since the latest checkpoint, restart or start
+pub record Course : Type 0 where
+  pub store : Store
+  pub deeds : List Deed
+  pub since : ℕ
+
+-- the newest records lost
+abbrev pub lose : ℕ → Store → Store
+lose lost s = record { low = s .low; floor = s .floor; base = s .base; records = drop lost (s .records) }
+
+-- section 5: floor is the next number before dropping, records of transactions without a commit are dropped
+abbrev pub recovered : Store → Store
+recovered s = record { low = s .low; floor = nextOf s; base = s .base; records = survivors (s .records) }
