@@ -70,10 +70,14 @@ pub record Cut (x : Cells) (since survived : ℕ) : Type 0 where
 abbrev pub lost : Cells → ℕ → ℕ
 lost x survived = x .head .journal .used - survived / recordBytes
 
+-- a head with another used count: what a host that keeps the head apart from the journal's bytes may have
+abbrev pub counting : ℕ → Head → Head
+counting used h = record { low = h .low; floor = h .floor; base = h .base; journal = record { used = used } }
+
 -- The stores that calls reach, with the deeds that were accepted and stand, the newest first, and how many records were written since the latest
 -- checkpoint, recovery or start. Whatever is lent: where it has the shape that the call asks for, it has the store's own cells. `room` says how many
 -- journal bytes may be lent to a call that writes a record. Numbers are those of section 2 and a journal holds bytes, as a host's types say
--- (SizedCall, Bytes). The history is told by the answers alone: a deed counts if its answer is 0.
+-- (SizedCall, Bytes). A restart may be lent a head whose used count is old. The history is told by the answers alone: a deed counts if its answer is 0.
 pub data Reached (room : ℕ → Type 0) : List Deed → ℕ → Cells → Type 0 where
   start : Reached room [] 0 emptyCells
   called : {ds : List Deed} {since : ℕ} {x : Cells} → Reached room ds since x → (c : Call) → SizedCall c → (keys values journal : List ℕ)
@@ -89,6 +93,6 @@ pub data Reached (room : ℕ → Type 0) : List Deed → ℕ → Cells → Type 
       (after (a .number) (record { head = head; keys = keys'; values = values'; journal = journal' }) x)
   recovered : {ds : List Deed} {since : ℕ} {x : Cells} → Reached room ds since x → (survived : ℕ) → Cut x since survived → (keys values journal : List ℕ) → Bytes journal
       → (isRecoverable (x .head) keys (length values) (length journal) survived ≡ true → Holds x survived keys values journal)
-      → (a : Reply) (head : Head) (journal' : List ℕ) → Recovered (x .head) keys values journal survived a head journal'
+      → (used : ℕ) (a : Reply) (head : Head) (journal' : List ℕ) → Recovered (counting used (x .head)) keys values journal survived a head journal'
       → Reached room (after (a .number) (restarted (lost x survived) ds) ds) (after (a .number) 0 since)
       (after (a .number) (record { head = head; keys = keys; values = values; journal = journal' }) x)

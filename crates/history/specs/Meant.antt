@@ -37,7 +37,7 @@ use Rattle.history.specs.History.{Deed, Did, Checkpointed, restarted}
 use Rattle.history.specs.Course.{Course, lose, recovered}
 use Rattle.history.specs.Tied.{Tied, tied-restart, tied-call, tied-checkpoint, tied-start}
 use Rattle.history.specs.Room.{room-checkpoint, room-restart}
-use Rattle.history.specs.Cells.{Cells, meaningOf, end, Holds, Cut, lost, Reached}
+use Rattle.history.specs.Cells.{Cells, meaningOf, end, Holds, Cut, lost, counting, Reached}
 use Rattle.history.specs.Cells as cells
 use Rattle.journal_store.specs.Checkpoint as checkpoint
 
@@ -250,15 +250,15 @@ module _ {room : ℕ → Type 0} {ds : List Deed} {since : ℕ} {x : Cells} (m :
               subst (Roomy (roomOf bytes)) (sym q) (room-restart (roomOf bytes) (courseOf ds since x) (m .tie) (m .steady bytes all) (lost x survived));
         }
 
-    pub meant-recovered : (a : Reply) (head : Head) (journal' : List ℕ) → Recovered (x .head) keys values journal survived a head journal'
+    pub meant-recovered : (used : ℕ) (a : Reply) (head : Head) (journal' : List ℕ) → Recovered (counting used (x .head)) keys values journal survived a head journal'
         → Meant room (after (a .number) (restarted (lost x survived) ds) ds) (after (a .number) 0 since)
         (after (a .number) (record { head = head; keys = keys; values = values; journal = journal' }) x)
-    meant-recovered a head journal' w =
+    meant-recovered used a head journal' w =
         let told : a .number ≡ recoverReply (x .head) keys values journal survived .number = ap (λ (r : Reply). r .number) (w .reply) in
         split (eqb (a .number) 0)
         (λ e.
         let q : recoverReply (x .head) keys values journal survived .number ≡ 0 = sym told ∙ eqb-true (a .number) 0 e in
-        let f : head ≡ restored .head = w .headed ∙ ap (λ (n : ℕ). after n (restored .head) (x .head)) q in
+        let f : head ≡ restored .head = w .headed ∙ ap (λ (n : ℕ). after n (restored .head) (counting used (x .head))) q in
         let g : journal' ≡ restored .journal = w .cells ∙ ap (λ (n : ℕ). after n (restored .journal) journal) q in
         rw (e, f, g) (recover-accepted q))
         (λ e. rw e m)
@@ -275,4 +275,5 @@ meant cells.start =
 meant (cells.called r c z keys values journal l h a head journal' w) = meant-called (meant r) c z keys values journal l h a head journal' w
 meant (cells.checkpointed r T small keys values journal bytes h a head keys' values' journal' w) =
     meant-checkpointed (meant r) T small keys values journal bytes h a head keys' values' journal' w
-meant (cells.recovered r survived cut keys values journal bytes h a head journal' w) = meant-recovered (meant r) survived cut keys values journal bytes h a head journal' w
+meant (cells.recovered r survived cut keys values journal bytes h used a head journal' w) =
+    meant-recovered (meant r) survived cut keys values journal bytes h used a head journal' w

@@ -1,6 +1,7 @@
 -- THE CUT and RECOVERY, on the cells that the contracts speak of. A restart at any byte from the journal's end at the latest accepted checkpoint,
--- recovery or empty start to its end now is accepted, whatever room is lent behind the surviving bytes; then the store answers as the history of the
--- whole surviving records. Recovery reads back what the calls wrote, and recovering again changes no cell. Assumes nothing.
+-- recovery or empty start to its end now is accepted, whatever room is lent behind the surviving bytes and whatever used count the lent head has; then
+-- the store answers as the history of the whole surviving records. Recovery reads back what the calls wrote, and recovering again changes no cell.
+-- Assumes nothing.
 use mathlib.Core.Path.{_≡_, refl, ap, sym, _∙_, subst}
 use mathlib.Core.Bool.{true}
 use mathlib.Core.List.{List, [], _∷_, _++_}
@@ -36,7 +37,7 @@ use Rattle.history.specs.Judged.{good-accepts}
 use Rattle.history.specs.Recovered.{recovered-again}
 use Rattle.history.specs.Tied.{cut-good}
 use Rattle.history.specs.Answered.{aborting-low, restarted-commitments, restarted-runners}
-use Rattle.history.specs.Cells.{Cells, meaningOf, end, Lent, Shows, Cut, lost, Reached, recovered}
+use Rattle.history.specs.Cells.{Cells, meaningOf, end, Lent, Shows, Cut, lost, counting, Reached, recovered}
 use Rattle.history.specs.Meant.{courseOf, meant, survived-records}
 use Rattle.history.specs.Lent.{shows-alike, tie, own}
 use Rattle.history.specs.Demands.{list-answers, looks-up-the-history}
@@ -93,7 +94,8 @@ module _ {room : ℕ → Type 0} {ds : List Deed} {since : ℕ} {x : Cells} (r :
   pub replied : recoverReply (x .head) keys values journal survived ≡ accepted Absent
   replied = rw can-recover (ap walkedReply walked)
 
-  module _ (bytes : Bytes journal) (a : Reply) (head : Head) (journal' : List ℕ) (w : Recovered (x .head) keys values journal survived a head journal') where
+  module _ (bytes : Bytes journal) (used : ℕ) (a : Reply) (head : Head) (journal' : List ℕ)
+      (w : Recovered (counting used (x .head)) keys values journal survived a head journal') where
     -- Recovery accepts.
     pub the-cut-is-accepted : a ≡ accepted Absent
     the-cut-is-accepted = w .reply ∙ replied
@@ -104,7 +106,7 @@ module _ {room : ℕ → Type 0} {ds : List Deed} {since : ℕ} {x : Cells} (r :
         subst
         (λ (n : ℕ). Reached room (after n (restarted (lost x survived) ds) ds) (after n 0 since) (after n (record { head = head; keys = keys; values = values; journal = journal' }) x))
         (ap (λ (b : Reply). b .number) the-cut-is-accepted)
-        (recovered r survived cut keys values journal bytes (λ _. l .held) a head journal' w)
+        (recovered r survived cut keys values journal bytes (λ _. l .held) used a head journal' w)
 
     abbrev after-cut : Cells
     after-cut = record { head = head; keys = keys; values = values; journal = journal' }
@@ -134,31 +136,31 @@ module _ {room : ℕ → Type 0} {ds : List Deed} {since : ℕ} {x : Cells} (r :
 
 -- RECOVERY
 module _ {room : ℕ → Type 0} {ds : List Deed} {since : ℕ} {x : Cells} (r : Reached room ds since x) (survived : ℕ) (cut : Cut x since survived)
-    (keys values journal : List ℕ) (l : Lent x survived keys values journal) (bytes : Bytes journal) (a : Reply) (head : Head) (journal' : List ℕ)
-    (w : Recovered (x .head) keys values journal survived a head journal') where
+    (keys values journal : List ℕ) (l : Lent x survived keys values journal) (bytes : Bytes journal) (used : ℕ) (a : Reply) (head : Head) (journal' : List ℕ)
+    (w : Recovered (counting used (x .head)) keys values journal survived a head journal') where
   -- Recovering again accepts and changes neither the head nor a cell.
-  pub recovering-again : (b : Reply) (head' : Head) (journal'' : List ℕ)
-      → Recovered head keys values journal' (head .journal .used * recordBytes) b head' journal'' → (b ≡ accepted Absent) × (head' ≡ head) × (journal'' ≡ journal')
-  recovering-again b head' journal'' v =
-      let next = the-cut-goes-on r survived cut keys values journal l bytes a head journal' w in
+  pub recovering-again : (old : ℕ) (b : Reply) (head' : Head) (journal'' : List ℕ)
+      → Recovered (counting old head) keys values journal' (head .journal .used * recordBytes) b head' journal'' → (b ≡ accepted Absent) × (head' ≡ head) × (journal'' ≡ journal')
+  recovering-again old b head' journal'' v =
+      let next = the-cut-goes-on r survived cut keys values journal l bytes used a head journal' w in
       let next-cells : Cells = record { head = head; keys = keys; values = values; journal = journal' } in
       let e = replied r survived cut keys values journal l in
       let left = surviving survived journal in
-      let f : head ≡ recoveredHead (x .head) left = w .headed ∙ ap (λ (q : Reply). after (q .number) (recoveredHead (x .head) left) (x .head)) e in
+      let f : head ≡ recoveredHead (x .head) left = w .headed ∙ ap (λ (q : Reply). after (q .number) (recoveredHead (x .head) left) (counting used (x .head))) e in
       let g : journal' ≡ compacted (survivors left) survived journal =
       w .cells ∙ ap (λ (q : Reply). after (q .number) (compacted (survivors left) survived journal) journal) e
       in
-      let used = length (survivors left) in
-      let d : used * recordBytes / recordBytes ≡ used = omega arith in
-      let n : surviving (used * recordBytes) journal' ≡ survivors left =
-      ap (λ (i : ℕ). newest i journal') d ∙ ap (newest used) g ∙ recover-meaning (x .head) keys values journal survived bytes
+      let stayed = length (survivors left) in
+      let d : stayed * recordBytes / recordBytes ≡ stayed = omega arith in
+      let n : surviving (stayed * recordBytes) journal' ≡ survivors left =
+      ap (λ (i : ℕ). newest i journal') d ∙ ap (newest stayed) g ∙ recover-meaning (x .head) keys values journal survived bytes
       in
       let s : Store = record { low = x .head .low; floor = x .head .floor; base = []; records = left } in
       let again = recovered-again s in
       let z = replied next (end next-cells) (record { late = omega arith; early = omega arith }) keys values journal' (own next) in
       let y : recoverReply head keys values journal' (head .journal .used * recordBytes) .number ≡ 0 = ap (λ (q : Reply). q .number) z in
       let headed : head' ≡ recoveredHead head (surviving (head .journal .used * recordBytes) journal') =
-      v .headed ∙ ap (λ (i : ℕ). after i (recoveredHead head (surviving (head .journal .used * recordBytes) journal')) head) y
+      v .headed ∙ ap (λ (i : ℕ). after i (recoveredHead head (surviving (head .journal .used * recordBytes) journal')) (counting old head)) y
       in
       let cells : journal'' ≡ compacted (survivors (surviving (head .journal .used * recordBytes) journal')) (head .journal .used * recordBytes) journal' =
       v .cells
@@ -176,22 +178,22 @@ module _ {room : ℕ → Type 0} {ds : List Deed} {since : ℕ} {x : Cells} (r :
             ∙ sym f,
         cells
             ∙ ap (λ (z : Head). compacted (survivors (surviving (z .journal .used * recordBytes) journal')) (z .journal .used * recordBytes) journal') f
-            ∙ ap (λ (rs : List Record). compacted (survivors rs) (used * recordBytes) journal') n
-            ∙ ap (λ (rs : List Record). compacted rs (used * recordBytes) journal') c
-            ∙ ap (compacted (survivors left) (used * recordBytes)) g
+            ∙ ap (λ (rs : List Record). compacted (survivors rs) (stayed * recordBytes) journal') n
+            ∙ ap (λ (rs : List Record). compacted rs (stayed * recordBytes) journal') c
+            ∙ ap (compacted (survivors left) (stayed * recordBytes)) g
             ∙ compacted-again (survivors left) survived journal
             ∙ sym g,
       )
 
 -- Recovering the whole of what the calls wrote is accepted, and every list at every time, refused ones too, is what it was before.
 module _ {room : ℕ → Type 0} {ds : List Deed} {since : ℕ} {x : Cells} (r : Reached room ds since x) (keys values journal : List ℕ)
-    (l : Lent x (end x) keys values journal) (bytes : Bytes journal) (a : Reply) (head : Head) (journal' : List ℕ)
-    (w : Recovered (x .head) keys values journal (end x) a head journal') where
+    (l : Lent x (end x) keys values journal) (bytes : Bytes journal) (used : ℕ) (a : Reply) (head : Head) (journal' : List ℕ)
+    (w : Recovered (counting used (x .head)) keys values journal (end x) a head journal') where
   nothing-cut : Cut x since (end x)
   nothing-cut = record { late = omega arith; early = omega arith }
 
   pub recovery-accepts : a ≡ accepted Absent
-  recovery-accepts = the-cut-is-accepted r (end x) nothing-cut keys values journal l bytes a head journal' w
+  recovery-accepts = the-cut-is-accepted r (end x) nothing-cut keys values journal l bytes used a head journal' w
 
   pub recovery-reads-back : (t : ℕ) (listed contents : List ℕ) → length listed ≡ length contents → (b b' : Reply) (listed₁ contents₁ listed₂ contents₂ : List ℕ)
       → ListedBy (x .head) keys values journal t listed contents b listed₁ contents₁
@@ -199,8 +201,8 @@ module _ {room : ℕ → Type 0} {ds : List Deed} {since : ℕ} {x : Cells} (r :
       → (b ≡ b') × (listed₁ ≡ listed₂) × (contents₁ ≡ contents₂)
   recovery-reads-back t listed contents p b b' listed₁ contents₁ listed₂ contents₂ u v =
       let none : lost x (end x) ≡ 0 = omega arith in
-      let next = the-cut-goes-on r (end x) nothing-cut keys values journal l bytes a head journal' w in
+      let next = the-cut-goes-on r (end x) nothing-cut keys values journal l bytes used a head journal' w in
       let rows = listIn (history ds .commitments) t in
       shows-alike rows (withRoom (timeRefused t (history ds) 0) (length rows) (length listed)) listed contents b listed₁ contents₁ b' listed₂ contents₂
       (list-answers r keys values journal l t listed contents p b listed₁ contents₁ u)
-      (rw none at (the-cut-lists r (end x) nothing-cut keys values journal l bytes a head journal' w keys values journal' (own next) t listed contents p b' listed₂ contents₂ v))
+      (rw none at (the-cut-lists r (end x) nothing-cut keys values journal l bytes used a head journal' w keys values journal' (own next) t listed contents p b' listed₂ contents₂ v))
