@@ -5,7 +5,7 @@ use mathlib.Core.Path.{_≡_}
 use mathlib.Core.Bool.{true}
 use mathlib.Core.List.{List, [], _∷_, _++_}
 use Prim.Native.Nat.{ℕ, suc, _-_, _*_, _/_, _^_, _<_, _≤_}
-use lib.ListN.{length, take, drop}
+use lib.ListN.{length, take, drop, getD}
 use Rattle.rules.specs.declared.Value.the-variants.{Present}
 use Rattle.rules.specs.Kinds.{recordBytes}
 use Rattle.rules.specs.Values.{Row}
@@ -19,7 +19,7 @@ use Rattle.journal_store.specs.Shape.{emptyHead, isShaped, meaning}
 use Rattle.journal_store.specs.Write.{Wrote}
 use Rattle.journal_store.specs.Recover.{isRecoverable, Recovered}
 use Rattle.journal_store.specs.Tie.{SizedCall}
-use Rattle.history.specs.History.{Deed, Did, Checkpointed, restarted}
+use Rattle.history.specs.History.{Commitment, Deed, Did, Checkpointed, restarted, valueIn, writtenBy}
 use Rattle.journal_store.specs.Checkpoint as checkpoint
 
 -- what a host keeps of a journal store
@@ -59,6 +59,14 @@ pub record Shows (rows : List Row) (number : ℕ) (listed contents : List ℕ) (
   pub reply : a ≡ told number (Present (length rows))
   pub keys-column : listed' ≡ after number (rowKeys rows ++ drop (length rows) listed) listed
   pub values-column : contents' ≡ after number (rowValues rows ++ drop (length rows) contents) contents
+
+-- exactly the registers of a history at t, in the first n places of two columns: keys rise strictly; a key stands there exactly if a transaction
+-- committed at or before t wrote it; its value is the history's
+pub record Registers (cs : List Commitment) (t n : ℕ) (keys values : List ℕ) : Type 0 where
+  pub rise : (i j : ℕ) → i < j → j < n → getD keys i 0 < getD keys j 0
+  pub each : (k : ℕ) → 1 ≤ k → writtenBy cs t k ≡ true → (i : ℕ) × (i < n) × (getD keys i 0 ≡ k)
+  pub only : (i : ℕ) → i < n → (1 ≤ getD keys i 0) × (writtenBy cs t (getD keys i 0) ≡ true)
+  pub value : (i : ℕ) → i < n → Present (getD values i 0) ≡ valueIn cs t (getD keys i 0)
 
 -- a cut at a byte that lies no earlier than the journal's end at the latest accepted checkpoint, recovery or empty start, and no later than its end
 -- now: `since` records were written since

@@ -33,7 +33,8 @@ use Rattle.history.specs.Tied.{refused-alike}
 use Rattle.history.specs.Allowed.{refused}
 use Rattle.history.specs.Answered.{lists, looksUp, readsIn, low-same, last-same, next-same, running-same, value-same, list-same, read-same}
 use Rattle.history.specs.Meant.{courseOf}
-use Rattle.history.specs.Cells.{Cells, meaningOf, end, Lent, Shows, Reached}
+use Rattle.history.specs.Cells.{Cells, meaningOf, end, Lent, Shows, Registers, Reached}
+use Rattle.history.specs.Rows.{shown-registers}
 use Rattle.history.specs.Lent.{told-same, shows-same, tie, lent-passes, lent-meaning}
 
 -- The history's list has every register written by a transaction committed at or before t, and no other; each with the history's value, once, keys rising.
@@ -122,6 +123,15 @@ module _ {room : ℕ → Type 0} {ds : List Deed} {since : ℕ} {x : Cells} (r :
         shows-same (listIn (history ds .commitments) t) (listIn (history ds .commitments) t) _ 0 listed contents a listed' contents'
         (in-time t (history ds) (length (listIn (history ds .commitments) t)) (length listed) old new fits) (λ z. refl)
         (list-answers t listed contents p a listed' contents' w)
+
+    -- Demand 3, whole: at every time from low to last a list with room enough has a count n, and exactly the history's registers in n rows.
+    pub every-listing : (t : ℕ) → history ds .low ≤ t → t ≤ lastIn (history ds) → (listed contents : List ℕ) → length listed ≡ length contents
+        → length (listIn (history ds .commitments) t) ≤ length listed → (a : Reply) (listed' contents' : List ℕ)
+        → ListedBy (x .head) keys values journal t listed contents a listed' contents'
+        → (n : ℕ) × (a ≡ accepted (Present n)) × Registers (history ds .commitments) t n listed' contents'
+    every-listing t old new listed contents p fits a listed' contents' w =
+        shown-registers (history ds .commitments) t listed contents p fits a listed' contents'
+        (journal-lists-the-history t old new listed contents p fits a listed' contents' w)
 
     -- VALUES. A lookup gives the number that the history gives, and where it is 0 the history's value.
     pub looks-up-the-history : (k t : ℕ)

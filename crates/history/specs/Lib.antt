@@ -23,6 +23,7 @@ pub mod RefusedAlike
 pub mod RecoveredAlike
 pub mod Recovered
 pub mod Listed
+pub mod Rows
 pub mod Replayed
 pub mod Allowed
 pub mod Sound

@@ -14,7 +14,8 @@ use Rattle.rules.specs.Bools.{split}
 use Rattle.rules.specs.Lists.{among}
 use Rattle.rules.specs.Passed.{passed, fitting}
 use Rattle.rules.specs.Calls.{Call, Begin, Update, Abort, Commit, withRoom}
-use Rattle.answer.specs.Reply.{Reply, told}
+use Rattle.rules.specs.declared.Value.the-variants.{Present}
+use Rattle.answer.specs.Reply.{Reply, accepted, told}
 use Rattle.slot.specs.Places.{Place, free, taken, placeOf}
 use Rattle.versions.specs.Laws.{length-versions}
 use Rattle.journal_store.specs.declared.Head.{Head}
@@ -31,7 +32,8 @@ use Rattle.history.specs.Refusals.{distinctKeys, lastIn, timeRefused, un
 use Rattle.history.specs.Lawful.{Lawful}
 use Rattle.history.specs.Maps.{mapped}
 use Rattle.history.specs.MapMeanings.{map-gives, map-refuses, map-times, map-value, map-list, map-reads, map-rows}
-use Rattle.history.specs.Cells.{Cells, end, Lent, Shows, Reached}
+use Rattle.history.specs.Cells.{Cells, end, Lent, Shows, Registers, Reached}
+use Rattle.history.specs.Rows.{shown-registers}
 use Rattle.history.specs.Lent.{told-same, shows-same, shows-alike}
 use Rattle.history.specs.Demands.{room-same, in-time, list-answers, looks-up-the-history, reads-the-history, calls-answer}
 use Rattle.history.specs.MapCells.{MapCells, MapLent, Does, begins, updates, aborts, commits, checkpoints, MapReached}
@@ -86,6 +88,15 @@ module _ {ds : List Deed} {m : MapCells} (r : MapReached ds m) (ks ts vs : List 
       shows-same (listIn (history ds .commitments) t) (listIn (history ds .commitments) t) _ 0 listed contents a listed' contents'
       (in-time t (history ds) (length (listIn (history ds .commitments) t)) (length listed) old new fits) (λ z. refl)
       (map-list-answers t listed contents p a listed' contents' w)
+
+  -- Demand 3, whole: a list with room enough has a count n, and exactly the history's registers in n rows.
+  pub map-every-listing : (t : ℕ) → history ds .low ≤ t → t ≤ lastIn (history ds) → (listed contents : List ℕ) → length listed ≡ length contents
+      → length (listIn (history ds .commitments) t) ≤ length listed → (a : Reply) (listed' contents' : List ℕ)
+      → ListedAt t (m .head) ks ts vs listed contents a listed' contents'
+      → (n : ℕ) × (a ≡ accepted (Present n)) × Registers (history ds .commitments) t n listed' contents'
+  map-every-listing t old new listed contents p fits a listed' contents' w =
+      shown-registers (history ds .commitments) t listed contents p fits a listed' contents'
+      (map-lists t old new listed contents p fits a listed' contents' w)
 
   -- VALUES. A lookup gives the number that the history gives, and where it is 0 the history's value.
   pub map-looks-up-the-history : (k t : ℕ) → lookupReply k t (m .head) ks ts vs ≡ told (lookupNumber k t (history ds)) (valueIn (history ds .commitments) t k)
