@@ -1,7 +1,7 @@
--- What shuts out trivial stores: an assign that was committed is looked up and listed, whatever came before it; and a refused call changes no cell,
--- so that all answers stay as they were. Assumes nothing.
+-- What shuts out trivial stores, for both: an assign that was committed is looked up and listed, whatever came before it. And demand 1: every call
+-- answers, and a refused one changes no cell, so that all answers stay as they were. Assumes nothing.
 use mathlib.Core.Path.{_≡_, refl, ap, sym, _∙_}
-use mathlib.Core.Bool.{true, not, false≢true}
+use mathlib.Core.Bool.{true, not}
 use mathlib.Core.List.{List, [], _∷_}
 use mathlib.Core.Logic.{_≢_}
 use Prim.Native.Nat.{ℕ, _≤_, max}
@@ -12,33 +12,32 @@ use borrow.Author.Tests.{not-false, eqb-false, eq-eqb, ne-eqb, le-leb, le-ltb, l
 use Rattle.rules.specs.declared.Value.the-variants.{Present}
 use Rattle.rules.specs.declared.Effect.the-variants.{Assign}
 use Rattle.rules.specs.Bools.{split}
-use Rattle.rules.specs.Values.{rowValue}
+use Rattle.rules.specs.Values.{Row, rowValue}
 use Rattle.rules.specs.Lists.{among}
 use Rattle.rules.specs.Passed.{passed}
-use Rattle.rules.specs.Calls.{Call, Update, Commit}
+use Rattle.rules.specs.Calls.{Call, Begin, Update, Abort, Commit}
 use Rattle.answer.specs.Reply.{Reply, accepted, after}
 use Rattle.journal_store.specs.declared.Head.{Head}
 use Rattle.journal_store.specs.Write.{number, Wrote}
-use Rattle.journal_store.specs.Read.{lookupDecided, shapedReply}
-use Rattle.journal_store.specs.List.{ListedBy}
-use Rattle.journal_store.specs.Checkpoint.{checkpointNumber, Checkpointed}
+use Rattle.journal_store.specs.Read.{readDecided, lookupDecided, shapedReply}
+use Rattle.journal_store.specs.List.{listNumber, ListedBy}
 use Rattle.journal_store.specs.Recover.{recoverReply, Recovered}
-use Rattle.history.specs.History.{Change, Runner, History, Deed, Did, numbers, changesOf, changed, history, valueIn, listIn}
+use Rattle.history.specs.History.{History, Deed, Did, Checkpointed, numbers, history, valueIn, listIn}
 use Rattle.history.specs.Refusals.{lastIn, timeRefused, refusalIn, lookupNumber}
 use Rattle.history.specs.Lawful.{Lawful, went}
 use Rattle.history.specs.Listed.{history-lists}
 use Rattle.history.specs.Silence.{latest-low}
 use Rattle.history.specs.Cells.{Cells, end, Lent, Shows, Reached}
 use Rattle.history.specs.Lent.{tie}
+use Rattle.history.specs.Told.{changed-own}
 use Rattle.history.specs.Demands.{journal-lists-the-history, looks-up-the-history}
-
--- a change of a running transaction is its newest
-newest-change : (n : ℕ) (c : Change) (rs : List Runner) → among n (numbers rs) ≡ true → changesOf n (changed n c rs) ≡ c ∷ changesOf n rs
-newest-change n c [] h = absurd (false≢true h)
-newest-change n c (r ∷ rs) h =
-    split (eqb (r .number) n)
-    (λ e. rw (e, e))
-    (λ e. rw (e, e) (newest-change n c rs (rw e at h)))
+use Rattle.map_store.specs.declared.MapHead.{MapHead}
+use Rattle.map_store.specs.Contracts.{readReply, lookupReply, ListedAt}
+use Rattle.history.specs.MapCells.{MapCells, MapLent, Does, begins, updates, aborts, commits, checkpoints, MapReached}
+use Rattle.history.specs.MapMeant.{map-meant}
+use Rattle.history.specs.MapDemands.{map-lists, map-looks-up-the-history}
+use Rattle.journal_store.specs.Checkpoint as checkpoint
+use Rattle.map_store.specs.Contracts as contract
 
 -- deeds that were accepted are ones that the history does not refuse
 not-refused : {d : Deed} {ds : List Deed} → Lawful (d ∷ ds) → refusalIn d (history ds) ≡ 0
@@ -47,15 +46,14 @@ not-refused (went ok e) = e
 before : {d : Deed} {ds : List Deed} → Lawful (d ∷ ds) → Lawful ds
 before (went ok e) = ok
 
--- An assign that was accepted and then committed at t, after any sequence: at t its register has its value.
-module _ {room : ℕ → Type 0} {ds : List Deed} {since : ℕ} {x : Cells} (n k v t : ℕ)
-    (r : Reached room (Did (Commit n t) ∷ Did (Update n k (Assign v)) ∷ ds) since x) where
+-- An assign that was accepted and then committed at t, after any lawful deeds: at t its register has its value.
+module _ {ds : List Deed} (n k v t : ℕ) (ok : Lawful (Did (Commit n t) ∷ Did (Update n k (Assign v)) ∷ ds)) where
   abbrev told-by : History
   told-by = history (Did (Commit n t) ∷ Did (Update n k (Assign v)) ∷ ds)
 
   update-accepted : (among n (numbers (history ds .runners)) ≡ true) × (k ≢ 0)
   update-accepted =
-      let e = not-refused (before (tie r .lawful)) in
+      let e = not-refused (before ok) in
       let a = passed (not (among n (numbers (history ds .runners)))) 2 _ (omega arith) e in
       let b = passed (eqb k 0) 3 _ (omega arith) (a .1) in
       (not-false (among n (numbers (history ds .runners))) (a .0), eqb-false k 0 (b .0))
@@ -65,7 +63,7 @@ module _ {room : ℕ → Type 0} {ds : List Deed} {since : ℕ} {x : Cells} (n k
   assigned =
       rw (
         le-leb t t (omega arith),
-        newest-change n (record { key = k; effect = Assign v }) (history ds .runners) (update-accepted .0),
+        changed-own n (record { key = k; effect = Assign v }) (history ds .runners) (update-accepted .0),
         eq-eqb k k refl,
       )
 
@@ -73,30 +71,62 @@ module _ {room : ℕ → Type 0} {ds : List Deed} {since : ℕ} {x : Cells} (n k
   answered : lookupNumber k t told-by ≡ 0
   answered =
       let h = history (Did (Update n k (Assign v)) ∷ ds) in
-      let e = not-refused (tie r .lawful) in
+      let e = not-refused ok in
       let a = passed (not (among n (numbers (h .runners)))) 2 _ (omega arith) e in
       let b = passed (leb t (lastIn h)) 10 _ (omega arith) (a .1) in
       let later = leb-false t (lastIn h) (b .0) in
       let from = latest-low (h .low) (h .commitments) in
       rw (ne-eqb k 0 (update-accepted .1), le-ltb t (h .low) (omega arith), le-ltb (max (lastIn h) t) t (omega arith))
 
-  module _ (keys values journal : List ℕ) (l : Lent x (end x) keys values journal) where
-    pub a-committed-assign-is-looked-up : shapedReply (x .head) keys values journal (lookupDecided k t) ≡ accepted (Present v)
-    a-committed-assign-is-looked-up = looks-up-the-history r keys values journal l k t ∙ rw (answered, assigned)
+  -- in time
+  timely : (told-by .low ≤ t) × (t ≤ lastIn told-by)
+  timely =
+      let y = passed (eqb k 0) 3 (timeRefused t told-by 0) (omega arith) answered .1 in
+      let old = passed (ltb t (told-by .low)) 4 _ (omega arith) y in
+      let new = passed (ltb (lastIn told-by) t) 5 0 (omega arith) (old .1) in
+      (ltb-false _ _ (old .0), ltb-false _ _ (new .0))
 
-    -- and listed, where the list has room
-    pub a-committed-assign-is-listed : (listed contents : List ℕ) → length listed ≡ length contents
-        → length (listIn (told-by .commitments) t) ≤ length listed → (a : Reply) (listed' contents' : List ℕ)
-        → ListedBy (x .head) keys values journal t listed contents a listed' contents'
-        → Shows (listIn (told-by .commitments) t) 0 listed contents a listed' contents' × (rowValue (listIn (told-by .commitments) t) k ≡ Present v)
-    a-committed-assign-is-listed listed contents p fits a listed' contents' w =
-        let z = update-accepted .1 in
-        let y = passed (eqb k 0) 3 (timeRefused t told-by 0) (omega arith) answered .1 in
-        let old = passed (ltb t (told-by .low)) 4 _ (omega arith) y in
-        let new = passed (ltb (lastIn told-by) t) 5 0 (omega arith) (old .1) in (
-          journal-lists-the-history r keys values journal l t (ltb-false _ _ (old .0)) (ltb-false _ _ (new .0)) listed contents p fits a listed' contents' w,
-          history-lists (told-by .commitments) t .values k (omega arith) ∙ assigned,
-        )
+  -- and the history's row
+  row : rowValue (listIn (told-by .commitments) t) k ≡ Present v
+  row = let z = update-accepted .1 in history-lists (told-by .commitments) t .values k (omega arith) ∙ assigned
+
+-- It is looked up, and listed where the list has room.
+module _ {room : ℕ → Type 0} {ds : List Deed} {since : ℕ} {x : Cells} (n k v t : ℕ)
+    (r : Reached room (Did (Commit n t) ∷ Did (Update n k (Assign v)) ∷ ds) since x) (keys values journal : List ℕ)
+    (l : Lent x (end x) keys values journal) where
+  abbrev rows : List Row
+  rows = listIn (history (Did (Commit n t) ∷ Did (Update n k (Assign v)) ∷ ds) .commitments) t
+
+  pub a-committed-assign-is-looked-up : shapedReply (x .head) keys values journal (lookupDecided k t) ≡ accepted (Present v)
+  a-committed-assign-is-looked-up =
+      let ok = tie r .lawful in
+      looks-up-the-history r keys values journal l k t ∙ rw (answered n k v t ok, assigned n k v t ok)
+
+  pub a-committed-assign-is-listed : (listed contents : List ℕ) → length listed ≡ length contents → length rows ≤ length listed
+      → (a : Reply) (listed' contents' : List ℕ) → ListedBy (x .head) keys values journal t listed contents a listed' contents'
+      → Shows rows 0 listed contents a listed' contents' × (rowValue rows k ≡ Present v)
+  a-committed-assign-is-listed listed contents p fits a listed' contents' w =
+      let ok = tie r .lawful in
+      let y = timely n k v t ok in
+      (journal-lists-the-history r keys values journal l t (y .0) (y .1) listed contents p fits a listed' contents' w, row n k v t ok)
+
+module _ {ds : List Deed} {m : MapCells} (n k v t : ℕ) (r : MapReached (Did (Commit n t) ∷ Did (Update n k (Assign v)) ∷ ds) m) (ks ts vs : List ℕ)
+    (l : MapLent m ks ts vs) where
+  abbrev map-rows : List Row
+  map-rows = listIn (history (Did (Commit n t) ∷ Did (Update n k (Assign v)) ∷ ds) .commitments) t
+
+  pub the-map-looks-up-a-committed-assign : lookupReply k t (m .head) ks ts vs ≡ accepted (Present v)
+  the-map-looks-up-a-committed-assign =
+      let ok = map-meant r .lawful in
+      map-looks-up-the-history r ks ts vs l k t ∙ rw (answered n k v t ok, assigned n k v t ok)
+
+  pub the-map-lists-a-committed-assign : (listed contents : List ℕ) → length listed ≡ length contents → length map-rows ≤ length listed
+      → (a : Reply) (listed' contents' : List ℕ) → ListedAt t (m .head) ks ts vs listed contents a listed' contents'
+      → Shows map-rows 0 listed contents a listed' contents' × (rowValue map-rows k ≡ Present v)
+  the-map-lists-a-committed-assign listed contents p fits a listed' contents' w =
+      let ok = map-meant r .lawful in
+      let y = timely n k v t ok in
+      (map-lists r ks ts vs l t (y .0) (y .1) listed contents p fits a listed' contents' w, row n k v t ok)
 
 -- A refused call returns the head that it got and leaves every lent cell, in any store, also a damaged one.
 kept : {A : Type 0} (m n : ℕ) (new old : A) → m ≡ n → m ≢ 0 → after n new old ≡ old
@@ -110,9 +140,9 @@ a-refused-call-changes-nothing c h keys values j a head j' w f =
     (w .headed ∙ kept (a .number) n _ h p f, w .cells ∙ kept (a .number) n _ j p f)
 
 pub a-refused-checkpoint-changes-nothing : (T : ℕ) (h : Head) (keys values j : List ℕ) (a : Reply) (head : Head) (keys' values' j' : List ℕ)
-    → Checkpointed T h keys values j a head keys' values' j' → a .number ≢ 0 → (head ≡ h) × (keys' ≡ keys) × (values' ≡ values) × (j' ≡ j)
+    → checkpoint.Checkpointed T h keys values j a head keys' values' j' → a .number ≢ 0 → (head ≡ h) × (keys' ≡ keys) × (values' ≡ values) × (j' ≡ j)
 a-refused-checkpoint-changes-nothing T h keys values j a head keys' values' j' w f =
-    let n = checkpointNumber T h keys values j in
+    let n = checkpoint.checkpointNumber T h keys values j in
     let p = ap (λ (r : Reply). r .number) (w .reply) in
     (w .headed ∙ kept (a .number) n _ h p f, w .keys-column ∙ kept (a .number) n _ keys p f, w .values-column ∙ kept (a .number) n _ values p f, w .cells ∙ kept (a .number) n _ j p f)
 
@@ -123,14 +153,78 @@ a-refused-recovery-changes-nothing h keys values j survived a head j' w f =
     let p = ap (λ (r : Reply). r .number) (w .reply) in
     (w .headed ∙ kept (a .number) n _ h p f, w .cells ∙ kept (a .number) n _ j p f)
 
+pub a-refused-list-changes-nothing : (t : ℕ) (h : Head) (keys values j listed contents : List ℕ) (a : Reply) (listed' contents' : List ℕ)
+    → ListedBy h keys values j t listed contents a listed' contents' → a .number ≢ 0 → (listed' ≡ listed) × (contents' ≡ contents)
+a-refused-list-changes-nothing t h keys values j listed contents a listed' contents' w f =
+    let n = listNumber h keys values j t (length listed) (length contents) in
+    let p = ap (λ (r : Reply). r .number) (w .reply) in
+    (w .keys-column ∙ kept (a .number) n _ listed p f, w .values-column ∙ kept (a .number) n _ contents p f)
+
+-- So does every call of the map store; its lookups and reads, as the journal store's, are lent nothing that they could change.
+pub a-refused-map-call-changes-nothing : {d : Deed} (h : MapHead) (ks ts vs : List ℕ) (a : Reply) (head : MapHead) {ks' ts' vs' : List ℕ}
+    → Does h ks ts vs a head d ks' ts' vs' → a .number ≢ 0 → (head ≡ h) × (ks' ≡ ks) × (ts' ≡ ts) × (vs' ≡ vs)
+a-refused-map-call-changes-nothing h ks ts vs a head (begins t w) f =
+    (w .headed ∙ kept (a .number) (contract.number (Begin t) h ks ts vs) _ h (ap (λ (r : Reply). r .number) (w .reply)) f, refl, refl, refl)
+a-refused-map-call-changes-nothing h ks ts vs a head (updates n k e w) f =
+    (w .headed ∙ kept (a .number) (contract.number (Update n k e) h ks ts vs) _ h (ap (λ (r : Reply). r .number) (w .reply)) f, refl, refl, refl)
+a-refused-map-call-changes-nothing h ks ts vs a head (aborts n w) f =
+    (w .headed ∙ kept (a .number) (contract.number (Abort n) h ks ts vs) _ h (ap (λ (r : Reply). r .number) (w .reply)) f, refl, refl, refl)
+a-refused-map-call-changes-nothing h ks ts vs a head (commits n t ks' ts' vs' w) f =
+    let i = contract.number (Commit n t) h ks ts vs in
+    let p = ap (λ (r : Reply). r .number) (w .answered .reply) in
+    (w .answered .headed ∙ kept (a .number) i _ h p f, w .keys ∙ kept (a .number) i _ ks p f, w .times ∙ kept (a .number) i _ ts p f, w .values ∙ kept (a .number) i _ vs p f)
+a-refused-map-call-changes-nothing h ks ts vs a head (checkpoints T ks' ts' vs' w) f =
+    let i = contract.checkpointNumber T h ks ts vs in
+    let p = ap (λ (r : Reply). r .number) (w .reply) in
+    (w .headed ∙ kept (a .number) i _ h p f, w .keys ∙ kept (a .number) i _ ks p f, w .times ∙ kept (a .number) i _ ts p f, w .values ∙ kept (a .number) i _ vs p f)
+
+pub a-refused-map-list-changes-nothing : (t : ℕ) (h : MapHead) (ks ts vs listed contents : List ℕ) (a : Reply) (listed' contents' : List ℕ)
+    → ListedAt t h ks ts vs listed contents a listed' contents' → a .number ≢ 0 → (listed' ≡ listed) × (contents' ≡ contents)
+a-refused-map-list-changes-nothing t h ks ts vs listed contents a listed' contents' w f =
+    let n = contract.listNumber t h ks ts vs listed contents in
+    let p = ap (λ (r : Reply). r .number) (w .reply) in
+    (w .keys ∙ kept (a .number) n _ listed p f, w .values ∙ kept (a .number) n _ contents p f)
+
 -- Every call on any store has an answer, head and cells that its contract allows, and by the stores' Unique one alone: any sequence can go on.
 pub every-call-answers : (c : Call) (h : Head) (keys values j : List ℕ) → (a : Reply) × (head : Head) × (j' : List ℕ) × Wrote c h keys values j a head j'
 every-call-answers c h keys values j = (_, _, _, record { reply = refl; headed = refl; cells = refl })
 
 pub every-checkpoint-answers : (T : ℕ) (h : Head) (keys values j : List ℕ)
-    → (a : Reply) × (head : Head) × (keys' : List ℕ) × (values' : List ℕ) × (j' : List ℕ) × Checkpointed T h keys values j a head keys' values' j'
+    → (a : Reply) × (head : Head) × (keys' : List ℕ) × (values' : List ℕ) × (j' : List ℕ) × checkpoint.Checkpointed T h keys values j a head keys' values' j'
 every-checkpoint-answers T h keys values j =
     (_, _, _, _, _, record { reply = refl; headed = refl; keys-column = refl; values-column = refl; cells = refl })
 
 pub every-recovery-answers : (h : Head) (keys values j : List ℕ) (survived : ℕ) → (a : Reply) × (head : Head) × (j' : List ℕ) × Recovered h keys values j survived a head j'
 every-recovery-answers h keys values j survived = (_, _, _, record { reply = refl; headed = refl; cells = refl })
+
+pub every-list-answers : (t : ℕ) (h : Head) (keys values j listed contents : List ℕ)
+    → (a : Reply) × (listed' : List ℕ) × (contents' : List ℕ) × ListedBy h keys values j t listed contents a listed' contents'
+every-list-answers t h keys values j listed contents = (_, _, _, record { reply = refl; keys-column = refl; values-column = refl })
+
+-- Lookup and read answer by an equation.
+pub every-lookup-answers : (k t : ℕ) (h : Head) (keys values j : List ℕ) → (a : Reply) × (a ≡ shapedReply h keys values j (lookupDecided k t))
+every-lookup-answers k t h keys values j = (_, refl)
+
+pub every-read-answers : (n k : ℕ) (h : Head) (keys values j : List ℕ) → (a : Reply) × (a ≡ shapedReply h keys values j (readDecided n k))
+every-read-answers n k h keys values j = (_, refl)
+
+-- The map store's calls.
+pub every-map-call-answers : (d : Deed) (h : MapHead) (ks ts vs : List ℕ)
+    → (a : Reply) × (head : MapHead) × (ks' : List ℕ) × (ts' : List ℕ) × (vs' : List ℕ) × Does h ks ts vs a head d ks' ts' vs'
+every-map-call-answers (Did (Begin t)) h ks ts vs = (_, _, ks, ts, vs, begins t (record { reply = refl; headed = refl }))
+every-map-call-answers (Did (Update n k e)) h ks ts vs = (_, _, ks, ts, vs, updates n k e (record { reply = refl; headed = refl }))
+every-map-call-answers (Did (Abort n)) h ks ts vs = (_, _, ks, ts, vs, aborts n (record { reply = refl; headed = refl }))
+every-map-call-answers (Did (Commit n t)) h ks ts vs =
+    (_, _, _, _, _, commits n t _ _ _ (record { answered = record { reply = refl; headed = refl }; keys = refl; times = refl; values = refl }))
+every-map-call-answers (Checkpointed T) h ks ts vs =
+    (_, _, _, _, _, checkpoints T _ _ _ (record { reply = refl; headed = refl; keys = refl; times = refl; values = refl }))
+
+pub every-map-list-answers : (t : ℕ) (h : MapHead) (ks ts vs listed contents : List ℕ)
+    → (a : Reply) × (listed' : List ℕ) × (contents' : List ℕ) × ListedAt t h ks ts vs listed contents a listed' contents'
+every-map-list-answers t h ks ts vs listed contents = (_, _, _, record { reply = refl; keys = refl; values = refl })
+
+pub every-map-lookup-answers : (k t : ℕ) (h : MapHead) (ks ts vs : List ℕ) → (a : Reply) × (a ≡ lookupReply k t h ks ts vs)
+every-map-lookup-answers k t h ks ts vs = (_, refl)
+
+pub every-map-read-answers : (n k : ℕ) (h : MapHead) (ks ts vs : List ℕ) → (a : Reply) × (a ≡ readReply n k h ks ts vs)
+every-map-read-answers n k h ks ts vs = (_, refl)

@@ -6,9 +6,9 @@ pub mod Demands
 pub mod Restarts
 pub mod Endings
 pub mod Silence
-pub mod Corollaries
 pub mod MapCells
 pub mod MapDemands
+pub mod Corollaries
 pub mod Examples
 -- The same on what a journal store means: the invariant of its sequences.
 pub mod Lawful

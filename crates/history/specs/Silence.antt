@@ -14,7 +14,7 @@ use Rattle.journal_store.specs.List.{ListedBy}
 use Rattle.history.specs.History.{Commitment, History, Deed, Did, Checkpointed, recalled, history, latest, listIn}
 use Rattle.history.specs.Refusals.{lastIn, timeRefused, refusalIn}
 use Rattle.history.specs.Replayed.{whole}
-use Rattle.history.specs.Lawful.{Lawful}
+use Rattle.history.specs.Lawful.{Lawful, start, went}
 use Rattle.history.specs.Told.{last-told}
 use Rattle.history.specs.Whole.{sound, tells}
 use Rattle.history.specs.Cells.{Cells, end, Lent, Reached}
@@ -99,17 +99,26 @@ module _ {room room' : ℕ → Type 0} {ds ds' : List Deed} {since since' : ℕ}
       (rw (f, e)) (λ z. e)
       (list-answers r' keys' values' journal' l' t listed contents p b listed₂ contents₂ v))
 
--- Without the checkpoints the rules refuse none of the calls that were accepted with them.
-pub silent-calls : {ds : List Deed} → Lawful ds → (c : Call) → refusalIn (Did c) (history ds) ≡ 0 → refusalIn (Did c) (history (withoutCheckpoints ds)) ≡ 0
-silent-calls {ds} ok (Begin t) e =
+-- a call that is not refused, is not refused without the checkpoints
+silent-call : {ds : List Deed} → Lawful ds → (c : Call) → refusalIn (Did c) (history ds) ≡ 0 → refusalIn (Did c) (history (withoutCheckpoints ds)) ≡ 0
+silent-call {ds} ok (Begin t) e =
     let w = history (withoutCheckpoints ds) in
     let e' : refusalIn (Did (Begin t)) (with-low (history ds .low) w) ≡ 0 = subst (λ (h : History). refusalIn (Did (Begin t)) h ≡ 0) (only-low ds) e in
     let a = passed (ltb t (history ds .low)) 4 _ (omega arith) e' in
     let b : lastIn (with-low (history ds .low) w) ≡ lastIn w = ap lastIn (sym (only-low ds)) ∙ last-commit ok ∙ rw (no-low ds) in
     rw (le-ltb t (w .low) (omega (arith, no-low ds)), ← b) (a .1)
-silent-calls {ds} ok (Update n k f) e = subst (λ (h : History). refusalIn (Did (Update n k f)) h ≡ 0) (only-low ds) e
-silent-calls {ds} ok (Abort n) e = subst (λ (h : History). refusalIn (Did (Abort n)) h ≡ 0) (only-low ds) e
-silent-calls {ds} ok (Commit n t) e =
+silent-call {ds} ok (Update n k f) e = subst (λ (h : History). refusalIn (Did (Update n k f)) h ≡ 0) (only-low ds) e
+silent-call {ds} ok (Abort n) e = subst (λ (h : History). refusalIn (Did (Abort n)) h ≡ 0) (only-low ds) e
+silent-call {ds} ok (Commit n t) e =
     let w = history (withoutCheckpoints ds) in
     let b : lastIn (with-low (history ds .low) w) ≡ lastIn w = ap lastIn (sym (only-low ds)) ∙ last-commit ok ∙ rw (no-low ds) in
     rw (← b) (subst (λ (h : History). refusalIn (Did (Commit n t)) h ≡ 0) (only-low ds) e)
+
+lawful-without : {ds : List Deed} → Lawful ds → Lawful (withoutCheckpoints ds)
+lawful-without start = start
+lawful-without (went {d = Did c} {ds = ds} ok e) = went (lawful-without ok) (silent-call ok c e)
+lawful-without (went {d = Checkpointed t} {ds = ds} ok e) = lawful-without ok
+
+-- Without the checkpoints the rules refuse none of the calls that a store accepted with them.
+pub silent-calls : {room : ℕ → Type 0} {ds : List Deed} {since : ℕ} {x : Cells} → Reached room ds since x → Lawful (withoutCheckpoints ds)
+silent-calls r = lawful-without (tie r .lawful)

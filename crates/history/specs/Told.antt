@@ -81,7 +81,7 @@ module _ (n : ℕ) (c : Change) where
   changed-snapshot m [] = refl
   changed-snapshot m (r ∷ rs) = split (eqb (r .number) n) (λ e. rw e) (λ e. rw (e, changed-snapshot m rs))
 
-  changed-own : (rs : List Runner) → among n (numbers rs) ≡ true → changesOf n (changed n c rs) ≡ c ∷ changesOf n rs
+  pub changed-own : (rs : List Runner) → among n (numbers rs) ≡ true → changesOf n (changed n c rs) ≡ c ∷ changesOf n rs
   changed-own [] h = absurd (false≢true h)
   changed-own (r ∷ rs) h = split (eqb (r .number) n) (λ e. rw (e, e)) (λ e. rw (e, e, changed-own rs (rw e at h)))
 
