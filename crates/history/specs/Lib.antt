@@ -9,7 +9,7 @@ pub mod Silence
 pub mod MapCells
 pub mod MapDemands
 pub mod Corollaries
-pub mod Examples
+pub mod Witness
 -- The same on what a journal store means: the invariant of its sequences.
 pub mod Lawful
 pub mod Course

@@ -1,6 +1,6 @@
 -- The one induction over a map store's sequences: its accepted deeds are lawful, its columns mean what the rules make of them, and their shape is good.
 -- Assumes nothing.
-use mathlib.Core.Path.{_≡_, ap, sym, _∙_}
+use mathlib.Core.Path.{_≡_, refl, ap, sym, _∙_}
 use mathlib.Core.Bool.{true, not, _&&_}
 use mathlib.Core.List.{List, [], _∷_}
 use Prim.Native.Nat.{ℕ, _<_, _≤_}
@@ -78,8 +78,7 @@ paired : (h : MapHead) (ks ts vs : ℕ) → isShaped h ks ts vs ≡ true → (h 
 paired h ks ts vs e =
     let rest = not (eqb (h .next) 0) && slotsShaped (h .slots) in
     let f = and-right (leb (h .used) 4096) (leb (h .used) ks && (eqb ks ts && (eqb ks vs && rest))) e in
-    let g = and-right (leb (h .used) ks) (eqb ks ts && (eqb ks vs && rest)) f in
-    (
+    let g = and-right (leb (h .used) ks) (eqb ks ts && (eqb ks vs && rest)) f in (
       leb-true _ _ (and-left (leb (h .used) ks) (eqb ks ts && (eqb ks vs && rest)) f),
       eqb-true _ _ (and-left (eqb ks ts) (eqb ks vs && rest) g),
       eqb-true _ _ (and-left (eqb ks vs) rest (and-right (eqb ks ts) (eqb ks vs && rest) g)),
@@ -179,3 +178,9 @@ map-meant (did r d ks ts vs h a head ks' ts' vs' w) =
     split (eqb (a .number) 0)
     (λ e. rw e (meant-does (map-meant r) ks ts vs h d a head w (sym (does-number a head w) ∙ eqb-true (a .number) 0 e)))
     (λ e. rw e (map-meant r))
+
+-- the store's own columns, lent as they are
+pub map-own : {ds : List Deed} {x : MapCells} → MapReached ds x → MapLent x (x .keys) (x .times) (x .values)
+map-own r =
+    let s = map-meant r .shaped in
+    record { rows = s .rows; times-paired = s .times; values-paired = s .values; held = record { keys-held = refl; times-held = refl; values-held = refl } }
