@@ -1,17 +1,21 @@
--- What a reader must believe, and the theorems.
+-- First the theorems, each with its whole signature.
+pub mod Theorems
+-- What a reader must believe: the history, its refusals, and what a sequence of calls is.
 pub mod History
 pub mod Refusals
+pub mod Lawful
 pub mod Cells
+pub mod MapCells
+-- The theorems with their proofs, and examples on cells.
 pub mod Demands
 pub mod Restarts
 pub mod Endings
 pub mod Silence
-pub mod MapCells
 pub mod MapDemands
 pub mod Corollaries
 pub mod Witness
+pub mod Marked
 -- The same on what a journal store means: the invariant of its sequences.
-pub mod Lawful
 pub mod Course
 pub mod Good
 pub mod Judged

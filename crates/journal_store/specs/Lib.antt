@@ -6,6 +6,5 @@ pub mod List
 pub mod Checkpoint
 pub mod Recover
 pub mod Unique
-pub mod Marked
 pub mod Tie
 pub mod ShapeLaws

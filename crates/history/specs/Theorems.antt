@@ -1,0 +1,171 @@
+-- The demands, for a reader: each theorem with its whole signature; the proofs are in the files that are named. What has to be believed stands in
+-- History and Refusals (what the user's words mean), Cells and MapCells (what a sequence of calls is), and in the contracts that these cite.
+-- Assumes nothing.
+use mathlib.Core.Path.{_≡_}
+use mathlib.Core.Bool.{true}
+use mathlib.Core.List.{List, _∷_}
+use mathlib.Core.Logic.{_≢_}
+use Prim.Native.Nat.{ℕ, _≤_}
+use lib.ListN.{length, drop}
+use Rattle.rules.specs.declared.Value.the-variants.{Absent, Present}
+use Rattle.rules.specs.declared.Effect.the-variants.{Assign}
+use Rattle.rules.specs.Lists.{among}
+use Rattle.rules.specs.Calls.{Call, Update, Abort, Commit, withRoom}
+use Rattle.record.specs.Bytes.{Bytes}
+use Rattle.answer.specs.Reply.{Reply, accepted, told}
+use Rattle.journal_store.specs.declared.Head.{Head}
+use Rattle.journal_store.specs.Shape.{roomOf}
+use Rattle.journal_store.specs.Write.{number, Wrote}
+use Rattle.journal_store.specs.Read.{readDecided, lookupDecided, shapedReply}
+use Rattle.journal_store.specs.List.{ListedBy}
+use Rattle.journal_store.specs.Recover.{Recovered}
+use Rattle.map_store.specs.declared.MapHead.{MapHead}
+use Rattle.map_store.specs.Contracts.{readReply, lookupReply, ListedAt}
+use Rattle.history.specs.History.{Deed, Did, numbers, history, restarted, valueIn, reads, listIn}
+use Rattle.history.specs.Refusals.{lastIn, timeRefused, givesIn, deedGives, numberIn, mapNumberIn, lookupNumber, readNumber}
+use Rattle.history.specs.Lawful.{Lawful}
+use Rattle.history.specs.Cells.{Cells, end, Lent, Registers, Cut, lost, counting, Reached}
+use Rattle.history.specs.MapCells.{MapCells, MapLent, Does, MapReached}
+use Rattle.history.specs.Silence.{withoutCheckpoints}
+use Rattle.history.specs.Demands as demands
+use Rattle.history.specs.MapDemands as map
+use Rattle.history.specs.Restarts as restarts
+use Rattle.history.specs.Endings as endings
+use Rattle.history.specs.Silence as silence
+use Rattle.history.specs.Corollaries as corollaries
+use Rattle.map_store.specs.Shape as shape
+
+-- DEMAND 1. Every call answers for all inputs, and by the stores' Unique in one way alone; a refused call changes nothing it was lent. The other calls
+-- of both stores are in Corollaries.
+pub every-call-answers : (c : Call) (h : Head) (keys values j : List ℕ) → (a : Reply) × (head : Head) × (j' : List ℕ) × Wrote c h keys values j a head j'
+every-call-answers = corollaries.every-call-answers
+
+pub every-map-call-answers : (d : Deed) (h : MapHead) (ks ts vs : List ℕ)
+    → (a : Reply) × (head : MapHead) × (ks' : List ℕ) × (ts' : List ℕ) × (vs' : List ℕ) × Does h ks ts vs a head d ks' ts' vs'
+every-map-call-answers = corollaries.every-map-call-answers
+
+pub a-refused-call-changes-nothing : (c : Call) (h : Head) (keys values j : List ℕ) (a : Reply) (head : Head) (j' : List ℕ)
+    → Wrote c h keys values j a head j' → a .number ≢ 0 → (head ≡ h) × (j' ≡ j)
+a-refused-call-changes-nothing = corollaries.a-refused-call-changes-nothing
+
+pub a-refused-map-call-changes-nothing : {d : Deed} (h : MapHead) (ks ts vs : List ℕ) (a : Reply) (head : MapHead) {ks' ts' vs' : List ℕ}
+    → Does h ks ts vs a head d ks' ts' vs' → a .number ≢ 0 → (head ≡ h) × (ks' ≡ ks) × (ts' ≡ ts) × (vs' ≡ vs)
+a-refused-map-call-changes-nothing = corollaries.a-refused-map-call-changes-nothing
+
+-- The number of every call is the one that the history gives, and an accepted begin gets the next number.
+pub calls-answer : {room : ℕ → Type 0} {ds : List Deed} {since : ℕ} {x : Cells} → Reached room ds since x → (keys values journal : List ℕ)
+    → Lent x (end x) keys values journal → (c : Call) (a : Reply) (head : Head) (journal' : List ℕ) → Wrote c (x .head) keys values journal a head journal'
+    → a ≡ told (numberIn (x .head .journal .used) (roomOf (length journal)) c (history ds)) (givesIn c (history ds))
+calls-answer = demands.calls-answer
+
+pub map-answers : {ds : List Deed} {m : MapCells} → MapReached ds m → (ks ts vs : List ℕ) → MapLent m ks ts vs → {d : Deed} (a : Reply) (head : MapHead)
+    {ks' ts' vs' : List ℕ} → Does (m .head) ks ts vs a head d ks' ts' vs'
+    → a ≡ told (mapNumberIn (m .head .used) (shape.roomOf (length ks)) d (history ds)) (deedGives d (history ds))
+map-answers = map.map-answers
+
+-- DEMAND 2. A value looked up is the history's, at every time; a value read has the reader's own changes besides.
+pub looks-up-the-history : {room : ℕ → Type 0} {ds : List Deed} {since : ℕ} {x : Cells} → Reached room ds since x → (keys values journal : List ℕ)
+    → Lent x (end x) keys values journal → (k t : ℕ)
+    → shapedReply (x .head) keys values journal (lookupDecided k t) ≡ told (lookupNumber k t (history ds)) (valueIn (history ds .commitments) t k)
+looks-up-the-history = demands.looks-up-the-history
+
+pub map-looks-up-the-history : {ds : List Deed} {m : MapCells} → MapReached ds m → (ks ts vs : List ℕ) → MapLent m ks ts vs → (k t : ℕ)
+    → lookupReply k t (m .head) ks ts vs ≡ told (lookupNumber k t (history ds)) (valueIn (history ds .commitments) t k)
+map-looks-up-the-history = map.map-looks-up-the-history
+
+pub reads-the-history : {room : ℕ → Type 0} {ds : List Deed} {since : ℕ} {x : Cells} → Reached room ds since x → (keys values journal : List ℕ)
+    → Lent x (end x) keys values journal → (n k : ℕ)
+    → shapedReply (x .head) keys values journal (readDecided n k) ≡ told (readNumber n k (history ds)) (reads (history ds) n k)
+reads-the-history = demands.reads-the-history
+
+pub map-reads-the-history : {ds : List Deed} {m : MapCells} → MapReached ds m → (ks ts vs : List ℕ) → MapLent m ks ts vs → (n k : ℕ)
+    → readReply n k (m .head) ks ts vs ≡ told (readNumber n k (history ds)) (reads (history ds) n k)
+map-reads-the-history = map.map-reads-the-history
+
+-- Recovery reads back what the calls wrote: every list at every time, refused ones too, is what it was.
+pub recovery-reads-back : {room : ℕ → Type 0} {ds : List Deed} {since : ℕ} {x : Cells} → Reached room ds since x → (keys values journal : List ℕ)
+    → Lent x (end x) keys values journal → Bytes journal → (used : ℕ) (a : Reply) (head : Head) (journal' : List ℕ)
+    → Recovered (counting used (x .head)) keys values journal (end x) a head journal' → (t : ℕ) (listed contents : List ℕ)
+    → length listed ≡ length contents → (b b' : Reply) (listed₁ contents₁ listed₂ contents₂ : List ℕ)
+    → ListedBy (x .head) keys values journal t listed contents b listed₁ contents₁
+    → ListedBy head keys values journal' t listed contents b' listed₂ contents₂
+    → (b ≡ b') × (listed₁ ≡ listed₂) × (contents₁ ≡ contents₂)
+recovery-reads-back = restarts.recovery-reads-back
+
+-- DEMAND 3. Over any sequence, at every time from low to last, a list with room enough has a count n, and exactly the history's registers in n rows.
+pub every-listing : {room : ℕ → Type 0} {ds : List Deed} {since : ℕ} {x : Cells} → Reached room ds since x → (keys values journal : List ℕ)
+    → Lent x (end x) keys values journal → (t : ℕ) → history ds .low ≤ t → t ≤ lastIn (history ds) → (listed contents : List ℕ)
+    → length listed ≡ length contents → length (listIn (history ds .commitments) t) ≤ length listed → (a : Reply) (listed' contents' : List ℕ)
+    → ListedBy (x .head) keys values journal t listed contents a listed' contents'
+    → (n : ℕ) × (a ≡ accepted (Present n)) × Registers (history ds .commitments) t n listed' contents'
+every-listing = demands.every-listing
+
+pub map-every-listing : {ds : List Deed} {m : MapCells} → MapReached ds m → (ks ts vs : List ℕ) → MapLent m ks ts vs → (t : ℕ) → history ds .low ≤ t
+    → t ≤ lastIn (history ds) → (listed contents : List ℕ) → length listed ≡ length contents → length (listIn (history ds .commitments) t) ≤ length listed
+    → (a : Reply) (listed' contents' : List ℕ) → ListedAt t (m .head) ks ts vs listed contents a listed' contents'
+    → (n : ℕ) × (a ≡ accepted (Present n)) × Registers (history ds .commitments) t n listed' contents'
+map-every-listing = map.map-every-listing
+
+-- As if no checkpoint had been taken: two stores whose accepted deeds differ in checkpoints alone list alike, and without the checkpoints the rules refuse
+-- none of the calls.
+pub checkpoint-is-silent : {room room' : ℕ → Type 0} {ds ds' : List Deed} {since since' : ℕ} {x x' : Cells} → Reached room ds since x
+    → Reached room' ds' since' x' → withoutCheckpoints ds ≡ withoutCheckpoints ds' → (keys values journal keys' values' journal' : List ℕ)
+    → Lent x (end x) keys values journal → Lent x' (end x') keys' values' journal' → (t : ℕ) → history ds .low ≤ t → history ds' .low ≤ t
+    → (listed contents : List ℕ) → length listed ≡ length contents → (a b : Reply) (listed₁ contents₁ listed₂ contents₂ : List ℕ)
+    → ListedBy (x .head) keys values journal t listed contents a listed₁ contents₁
+    → ListedBy (x' .head) keys' values' journal' t listed contents b listed₂ contents₂
+    → (a ≡ b) × (listed₁ ≡ listed₂) × (contents₁ ≡ contents₂)
+checkpoint-is-silent = silence.checkpoint-is-silent
+
+pub silent-calls : {room : ℕ → Type 0} {ds : List Deed} {since : ℕ} {x : Cells} → Reached room ds since x → Lawful (withoutCheckpoints ds)
+silent-calls = silence.silent-calls
+
+-- The map store, given the same calls, lists the same.
+pub stores-list-alike : {room : ℕ → Type 0} {ds : List Deed} {since : ℕ} {x : Cells} → Reached room ds since x → (keys values journal : List ℕ)
+    → Lent x (end x) keys values journal → {m : MapCells} → MapReached ds m → (ks ts vs : List ℕ) → MapLent m ks ts vs → (t : ℕ) (listed contents : List ℕ)
+    → length listed ≡ length contents → (a a' : Reply) (listed₁ contents₁ listed₂ contents₂ : List ℕ)
+    → ListedBy (x .head) keys values journal t listed contents a listed₁ contents₁
+    → ListedAt t (m .head) ks ts vs listed contents a' listed₂ contents₂
+    → (a ≡ a') × (listed₁ ≡ listed₂) × (contents₁ ≡ contents₂)
+stores-list-alike = map.stores-list-alike
+
+-- And it goes on being given the same: call by call both answer the same, unless one of them has no room.
+pub stores-answer-alike : {room : ℕ → Type 0} {ds : List Deed} {since : ℕ} {x : Cells} → Reached room ds since x → (keys values journal : List ℕ)
+    → Lent x (end x) keys values journal → {m : MapCells} → MapReached ds m → (ks ts vs : List ℕ) → MapLent m ks ts vs → (c : Call) (a a' : Reply)
+    (head : Head) (journal' : List ℕ) (head' : MapHead) {ks' ts' vs' : List ℕ} → Wrote c (x .head) keys values journal a head journal'
+    → Does (m .head) ks ts vs a' head' (Did c) ks' ts' vs' → a .number ≢ 12 → a' .number ≢ 12 → a ≡ a'
+stores-answer-alike = map.stores-answer-alike
+
+-- THE CUT. At any byte from the journal's end at the latest checkpoint, recovery or empty start to its end now, whatever is lent behind it and whatever
+-- used count the lent head has: recovery accepts, and the sequence goes on from what survived, with an abort for each transaction that ran.
+pub the-cut-is-accepted : {room : ℕ → Type 0} {ds : List Deed} {since : ℕ} {x : Cells} → Reached room ds since x → (survived : ℕ) → Cut x since survived
+    → (keys values journal : List ℕ) → Lent x survived keys values journal → Bytes journal → (used : ℕ) (a : Reply) (head : Head) (journal' : List ℕ)
+    → Recovered (counting used (x .head)) keys values journal survived a head journal' → a ≡ accepted Absent
+the-cut-is-accepted = restarts.the-cut-is-accepted
+
+pub the-cut-goes-on : {room : ℕ → Type 0} {ds : List Deed} {since : ℕ} {x : Cells} → Reached room ds since x → (survived : ℕ) → Cut x since survived
+    → (keys values journal : List ℕ) → Lent x survived keys values journal → Bytes journal → (used : ℕ) (a : Reply) (head : Head) (journal' : List ℕ)
+    → Recovered (counting used (x .head)) keys values journal survived a head journal'
+    → Reached room (restarted (lost x survived) ds) 0 (record { head = head; keys = keys; values = values; journal = journal' })
+the-cut-goes-on = restarts.the-cut-goes-on
+
+-- RULE 3.11. With the same lent room throughout, a running transaction can always be ended by abort, and a commit never gets 12.
+pub ending-is-possible : (bytes : ℕ) {ds : List Deed} {since : ℕ} {x : Cells} → Reached (λ n. n ≡ bytes) ds since x → (keys values journal : List ℕ)
+    → Lent x (end x) keys values journal → length journal ≡ bytes → (n : ℕ) → among n (numbers (history ds .runners)) ≡ true
+    → number (Abort n) (x .head) keys values journal ≡ 0
+ending-is-possible = endings.ending-is-possible
+
+pub commit-never-12 : (bytes : ℕ) {ds : List Deed} {since : ℕ} {x : Cells} → Reached (λ n. n ≡ bytes) ds since x → (keys values journal : List ℕ)
+    → Lent x (end x) keys values journal → length journal ≡ bytes → (n t : ℕ) → number (Commit n t) (x .head) keys values journal ≢ 12
+commit-never-12 = endings.commit-never-12
+
+-- NO TRIVIAL STORE. A committed assign is looked up.
+pub a-committed-assign-is-looked-up : {room : ℕ → Type 0} {ds : List Deed} {since : ℕ} {x : Cells} (n k v t : ℕ)
+    → Reached room (Did (Commit n t) ∷ Did (Update n k (Assign v)) ∷ ds) since x → (keys values journal : List ℕ) → Lent x (end x) keys values journal
+    → shapedReply (x .head) keys values journal (lookupDecided k t) ≡ accepted (Present v)
+a-committed-assign-is-looked-up = corollaries.a-committed-assign-is-looked-up
+
+pub the-map-looks-up-a-committed-assign : {ds : List Deed} {m : MapCells} (n k v t : ℕ)
+    → MapReached (Did (Commit n t) ∷ Did (Update n k (Assign v)) ∷ ds) m → (ks ts vs : List ℕ) → MapLent m ks ts vs
+    → lookupReply k t (m .head) ks ts vs ≡ accepted (Present v)
+the-map-looks-up-a-committed-assign = corollaries.the-map-looks-up-a-committed-assign
