@@ -7,11 +7,7 @@ use lib.Dec.{eqb, leb, ltb}
 use lib.ListN.{length}
 use borrow.Author.Tests.{leb-false, ltb-false, not-false}
 use Rattle.rules.specs.declared.Effect.{Effect}
-use Rattle.rules.specs.Transactions.{runs, running}
-use Rattle.rules.specs.Conflicts.{conflict}
-use Rattle.rules.specs.Checkpoints.{held}
-use Rattle.rules.specs.Recovery.{mayWrite}
-use Rattle.rules.specs.Calls.{Store, lastOf, nextOf, Begin, Update, Abort, Commit, timeRefusal, refusal, checkpointRefusal}
+use Rattle.rules.specs.Calls.{Store, lastOf, nextOf, runningOf, runsIn, heldIn, mayWriteIn, conflictIn, Begin, Update, Abort, Commit, timeRefusal, refusal, checkpointRefusal}
 use Rattle.rules.specs.Passed.{passed}
 use Rattle.history.specs.History.{Deed, Did, Checkpointed}
 use Rattle.history.specs.Judged.{pos}
@@ -23,11 +19,11 @@ refused (Checkpointed t) s = checkpointRefusal t s
 
 -- a deed that is not refused, a case for each kind
 pub data Allowed (s : Store) : Deed → Type 0 where
-  may-begin : (t : ℕ) → s .low ≤ t → t ≤ lastOf s → length (running (s .records)) < 8 → nextOf s < 4294967295 → Allowed s (Did (Begin t))
-  may-update : (n k : ℕ) (e : Effect) → runs n (s .records) ≡ true → 1 ≤ k → mayWrite n k (s .records) ≡ true → Allowed s (Did (Update n k e))
-  may-abort : (n : ℕ) → runs n (s .records) ≡ true → Allowed s (Did (Abort n))
-  may-commit : (n t : ℕ) → runs n (s .records) ≡ true → lastOf s < t → conflict n (s .records) ≡ false → Allowed s (Did (Commit n t))
-  may-checkpoint : (t : ℕ) → s .low ≤ t → t ≤ lastOf s → held t (s .records) ≡ false → Allowed s (Checkpointed t)
+  may-begin : (t : ℕ) → s .low ≤ t → t ≤ lastOf s → length (runningOf s) < 8 → nextOf s < 4294967295 → Allowed s (Did (Begin t))
+  may-update : (n k : ℕ) (e : Effect) → runsIn n s ≡ true → 1 ≤ k → mayWriteIn n k s ≡ true → Allowed s (Did (Update n k e))
+  may-abort : (n : ℕ) → runsIn n s ≡ true → Allowed s (Did (Abort n))
+  may-commit : (n t : ℕ) → runsIn n s ≡ true → lastOf s < t → conflictIn n s ≡ false → Allowed s (Did (Commit n t))
+  may-checkpoint : (t : ℕ) → s .low ≤ t → t ≤ lastOf s → heldIn t s ≡ false → Allowed s (Checkpointed t)
 
 module _ (s : Store) where
   -- the two tests of a time
@@ -40,21 +36,21 @@ module _ (s : Store) where
   -- what is not refused is allowed
   pub allowed : (d : Deed) → refused d s ≡ 0 → Allowed s d
   allowed (Did (Begin t)) e =
-      let p = timely-at t (cond (leb 8 (length (running (s .records)))) 6 (cond (leb 4294967295 (nextOf s)) 7 0)) e in
-      let u = passed (leb 8 (length (running (s .records)))) 6 (cond (leb 4294967295 (nextOf s)) 7 0) (omega arith) (p .2) in
+      let p = timely-at t (cond (leb 8 (length (runningOf s))) 6 (cond (leb 4294967295 (nextOf s)) 7 0)) e in
+      let u = passed (leb 8 (length (runningOf s))) 6 (cond (leb 4294967295 (nextOf s)) 7 0) (omega arith) (p .2) in
       let v = passed (leb 4294967295 (nextOf s)) 7 0 (omega arith) (u .1) in
       may-begin t (p .0) (p .1) (leb-false _ _ (u .0)) (leb-false _ _ (v .0))
   allowed (Did (Update n k f)) e =
-      let p = passed (not (runs n (s .records))) 2 (cond (eqb k 0) 3 (cond (not (mayWrite n k (s .records))) 8 0)) (omega arith) e in
-      let q = passed (eqb k 0) 3 (cond (not (mayWrite n k (s .records))) 8 0) (omega arith) (p .1) in
-      let t = passed (not (mayWrite n k (s .records))) 8 0 (omega arith) (q .1) in
+      let p = passed (not (runsIn n s)) 2 (cond (eqb k 0) 3 (cond (not (mayWriteIn n k s)) 8 0)) (omega arith) e in
+      let q = passed (eqb k 0) 3 (cond (not (mayWriteIn n k s)) 8 0) (omega arith) (p .1) in
+      let t = passed (not (mayWriteIn n k s)) 8 0 (omega arith) (q .1) in
       may-update n k f (not-false _ (p .0)) (pos k (q .0)) (not-false _ (t .0))
-  allowed (Did (Abort n)) e = may-abort n (not-false _ (passed (not (runs n (s .records))) 2 0 (omega arith) e .0))
+  allowed (Did (Abort n)) e = may-abort n (not-false _ (passed (not (runsIn n s)) 2 0 (omega arith) e .0))
   allowed (Did (Commit n t)) e =
-      let p = passed (not (runs n (s .records))) 2 (cond (leb t (lastOf s)) 10 (cond (conflict n (s .records)) 11 0)) (omega arith) e in
-      let q = passed (leb t (lastOf s)) 10 (cond (conflict n (s .records)) 11 0) (omega arith) (p .1) in
-      let u = passed (conflict n (s .records)) 11 0 (omega arith) (q .1) in
+      let p = passed (not (runsIn n s)) 2 (cond (leb t (lastOf s)) 10 (cond (conflictIn n s) 11 0)) (omega arith) e in
+      let q = passed (leb t (lastOf s)) 10 (cond (conflictIn n s) 11 0) (omega arith) (p .1) in
+      let u = passed (conflictIn n s) 11 0 (omega arith) (q .1) in
       may-commit n t (not-false _ (p .0)) (leb-false _ _ (q .0)) (u .0)
   allowed (Checkpointed t) e =
-      let p = timely-at t (cond (held t (s .records)) 9 0) e in
-      may-checkpoint t (p .0) (p .1) (passed (held t (s .records)) 9 0 (omega arith) (p .2) .0)
+      let p = timely-at t (cond (heldIn t s) 9 0) e in
+      may-checkpoint t (p .0) (p .1) (passed (heldIn t s) 9 0 (omega arith) (p .2) .0)

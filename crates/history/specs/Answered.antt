@@ -6,12 +6,10 @@ use mathlib.Core.List.{List, [], _∷_}
 use Prim.Native.Nat.{ℕ, _≤_}
 use native.Mathlib.Omega.{arith}
 use lib.ListN.{length, drop}
-use Rattle.rules.specs.declared.Value.{Value}
 use Rattle.rules.specs.Transactions.{of, runs, snapshot, running}
-use Rattle.rules.specs.Values.{Row, valueAt, readIn}
-use Rattle.rules.specs.Lists.{among, listAt}
+use Rattle.rules.specs.Lists.{among}
 use Rattle.rules.specs.Recovery.{survivors}
-use Rattle.rules.specs.Calls.{Store, lastOf, nextOf, Abort}
+use Rattle.rules.specs.Calls.{lastOf, nextOf, valueOf, listOf, readOf, Abort}
 use Rattle.rules.specs.Bools.{split}
 use Rattle.rules.specs.Listing.{list-lists, lists-unique}
 use Rattle.history.specs.History.{Runner, Deed, Did, numbers, history, aborting, restarted, valueIn, reads, listIn}
@@ -25,16 +23,6 @@ use Rattle.history.specs.Told.{value-told, last-told}
 use Rattle.history.specs.Whole.{tells, read-told}
 use Rattle.history.specs.Tied.{Tied, tied-restart, now, good-now, low-now, next-above}
 use Rattle.history.specs.Room.{running-none}
-
--- what a store lists, what it has for a key, and what a transaction reads in it
-abbrev pub lists : Store → ℕ → List Row
-lists s t = listAt (s .base) (s .records) t
-
-abbrev pub looksUp : Store → ℕ → ℕ → Value
-looksUp s t k = valueAt (s .base) (s .records) t k
-
-abbrev pub readsIn : Store → ℕ → ℕ → Value
-readsIn s n k = readIn (s .base) (s .records) n k
 
 module _ (y : Course) (h : Tied y) where
   pub low-same : y .store .low ≡ history (y .deeds) .low
@@ -51,19 +39,19 @@ module _ (y : Course) (h : Tied y) where
   pub running-same : running (y .store .records) ≡ numbers (history (y .deeds) .runners)
   running-same = now y h .runnings ∙ sym (tells (h .lawful) .runs-alike)
 
-  pub value-same : (t k : ℕ) → 1 ≤ k → y .store .low ≤ t → looksUp (y .store) t k ≡ valueIn (history (y .deeds) .commitments) t k
+  pub value-same : (t k : ℕ) → 1 ≤ k → y .store .low ≤ t → valueOf k t (y .store) ≡ valueIn (history (y .deeds) .commitments) t k
   value-same t k i l = now y h .values k t i l ∙ rw (tells (h .lawful) .commits) (value-told k t (whole (y .deeds) .records))
 
-  pub list-same : (t : ℕ) → y .store .low ≤ t → lists (y .store) t ≡ listIn (history (y .deeds) .commitments) t
+  pub list-same : (t : ℕ) → y .store .low ≤ t → listOf t (y .store) ≡ listIn (history (y .deeds) .commitments) t
   list-same t l =
       let s = y .store in
       let cs = history (y .deeds) .commitments in
       let p = list-lists (s .base) (s .records) t in
-      lists-unique (valueIn cs t) (lists s t) (listIn cs t)
+      lists-unique (valueIn cs t) (listOf t s) (listIn cs t)
       (record { values = λ k i. p .values k i ∙ value-same t k i l; rises = p .rises })
       (history-lists cs t)
 
-  pub read-same : (n k : ℕ) → runs n (y .store .records) ≡ true → 1 ≤ k → readsIn (y .store) n k ≡ reads (history (y .deeds)) n k
+  pub read-same : (n k : ℕ) → runs n (y .store .records) ≡ true → 1 ≤ k → readOf n k (y .store) ≡ reads (history (y .deeds)) n k
   read-same n k u i =
       let b = whole (y .deeds) .records in
       let v : runs n b ≡ true = sym (now y h .run n) ∙ u in

@@ -1,8 +1,8 @@
 -- What shuts out trivial stores, for both: an assign that was committed is looked up and listed, whatever came before it. And demand 1: every call
 -- answers, and a refused one changes no cell, so that all answers stay as they were. Assumes nothing.
-use mathlib.Core.Path.{_≡_, refl, ap, sym, _∙_}
+use mathlib.Core.Path.{_≡_, refl, ap, _∙_}
 use mathlib.Core.Bool.{true, not}
-use mathlib.Core.List.{List, [], _∷_}
+use mathlib.Core.List.{List, _∷_}
 use mathlib.Core.Logic.{_≢_}
 use Prim.Native.Nat.{ℕ, _≤_, max}
 use native.Mathlib.Omega.{arith}
@@ -11,7 +11,6 @@ use lib.ListN.{length}
 use borrow.Author.Tests.{not-false, eqb-false, eq-eqb, ne-eqb, le-leb, le-ltb, ltb-false, leb-false}
 use Rattle.rules.specs.declared.Value.the-variants.{Present}
 use Rattle.rules.specs.declared.Effect.the-variants.{Assign}
-use Rattle.rules.specs.Bools.{split}
 use Rattle.rules.specs.Values.{Row, rowValue}
 use Rattle.rules.specs.Lists.{among}
 use Rattle.rules.specs.Passed.{passed}

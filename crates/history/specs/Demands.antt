@@ -3,7 +3,7 @@
 -- the accepted calls, as if no checkpoint had been taken (History, Refusals). Assumes nothing.
 use mathlib.Core.Path.{_≡_, refl, ap, sym, _∙_}
 use mathlib.Core.Bool.{Bool, cond, not}
-use mathlib.Core.List.{List, []}
+use mathlib.Core.List.{List}
 use Prim.Native.Nat.{ℕ, _-_, _≤_}
 use native.Mathlib.Omega.{arith}
 use lib.Dec.{eqb, leb, ltb}
@@ -15,7 +15,7 @@ use Rattle.rules.specs.Passed.{passed, fitting}
 use Rattle.rules.specs.Transactions.{runs, running}
 use Rattle.rules.specs.Listing.{Lists}
 use Rattle.rules.specs.Running.{running-runs}
-use Rattle.rules.specs.Calls.{Store, lastOf, Call, Begin, Update, Abort, Commit, gives, readRefusal, lookupRefusal, listRefusal, checkpointRefusal, need, withRoom, answer, listAnswer, checkpointAnswer}
+use Rattle.rules.specs.Calls.{Store, lastOf, valueOf, listOf, readOf, Call, Begin, Update, Abort, Commit, gives, readRefusal, lookupRefusal, listRefusal, checkpointRefusal, need, withRoom, answer, listAnswer, checkpointAnswer}
 use Rattle.record.specs.Laws.{length-newest}
 use Rattle.answer.specs.Reply.{Reply, accepted, told}
 use Rattle.journal_store.specs.declared.Head.{Head}
@@ -31,7 +31,7 @@ use Rattle.history.specs.RefusalsTold.{length-numbers}
 use Rattle.history.specs.Whole.{whole-refuses}
 use Rattle.history.specs.Tied.{refused-alike}
 use Rattle.history.specs.Allowed.{refused}
-use Rattle.history.specs.Answered.{lists, looksUp, readsIn, low-same, last-same, next-same, running-same, value-same, list-same, read-same}
+use Rattle.history.specs.Answered.{low-same, last-same, next-same, running-same, value-same, list-same, read-same}
 use Rattle.history.specs.Meant.{courseOf}
 use Rattle.history.specs.Cells.{Cells, meaningOf, end, Lent, Shows, Registers, Reached}
 use Rattle.history.specs.Rows.{shown-registers}
@@ -101,17 +101,17 @@ module _ {room : ℕ → Type 0} {ds : List Deed} {since : ℕ} {x : Cells} (r :
         let n : listNumber (x .head) keys values journal t (length listed) (length contents) ≡ listAnswer (length listed) t (meaningOf x) =
         rw (eq-eqb (length listed) (length contents) p, lent-passes r keys values journal l) (ap (listAnswer (length listed) t) q)
         in
-        let same : listRefusal t (meaningOf x) ≡ 0 → lists (meaningOf x) t ≡ listIn (history ds .commitments) t =
+        let same : listRefusal t (meaningOf x) ≡ 0 → listOf t (meaningOf x) ≡ listIn (history ds .commitments) t =
         λ z. list-same (courseOf ds since x) (tie r) t (not-old t z)
         in
         let m : listAnswer (length listed) t (meaningOf x)
         ≡ withRoom (timeRefused t (history ds) 0) (length (listIn (history ds .commitments) t)) (length listed) =
-        room-same (listRefusal t (meaningOf x)) (timeRefused t (history ds) 0) (length (lists (meaningOf x) t)) (length (listIn (history ds .commitments) t)) (length listed)
+        room-same (listRefusal t (meaningOf x)) (timeRefused t (history ds) 0) (length (listOf t (meaningOf x))) (length (listIn (history ds .commitments) t)) (length listed)
         (times-refused t) (λ z. ap length (same z))
         in
-        shows-same (lists s t) (listIn (history ds .commitments) t) (listNumber (x .head) keys values journal t (length listed) (length contents)) _
+        shows-same (listOf t s) (listIn (history ds .commitments) t) (listNumber (x .head) keys values journal t (length listed) (length contents)) _
         listed contents a listed' contents' (n ∙ m)
-        (λ z. ap (λ (s : Store). lists s t) q ∙ same (fitting _ _ (length listed) (sym n ∙ z) .0))
+        (λ z. ap (λ (s : Store). listOf t s) q ∙ same (fitting _ _ (length listed) (sym n ∙ z) .0))
         (record { reply = w .reply; keys-column = w .keys-column; values-column = w .values-column })
 
     -- At every time from low to last a list with room enough is accepted, and gives exactly the history's list.
@@ -139,7 +139,7 @@ module _ {room : ℕ → Type 0} {ds : List Deed} {since : ℕ} {x : Cells} (r :
     looks-up-the-history k t =
         sym (reply-good (x .head) keys values journal (lookupDecided k t) _ (lent-passes r keys values journal l) refl)
         ∙ ap (lookupDecided k t) (lent-meaning r keys values journal l)
-        ∙ told-same (lookupRefusal k t (meaningOf x)) (lookupNumber k t (history ds)) (looksUp (meaningOf x) t k) (valueIn (history ds .commitments) t k)
+        ∙ told-same (lookupRefusal k t (meaningOf x)) (lookupNumber k t (history ds)) (valueOf k t (meaningOf x)) (valueIn (history ds .commitments) t k)
         (ap (cond (eqb k 0) 3) (times-refused t))
         (λ z.
         let y = passed (eqb k 0) 3 (listRefusal t (meaningOf x)) (omega arith) z in
@@ -153,7 +153,7 @@ module _ {room : ℕ → Type 0} {ds : List Deed} {since : ℕ} {x : Cells} (r :
         let e : readRefusal n k (meaningOf x) ≡ readNumber n k (history ds) = rw (← running-is, running-runs n (meaningOf x .records)) in
         sym (reply-good (x .head) keys values journal (readDecided n k) _ (lent-passes r keys values journal l) refl)
         ∙ ap (readDecided n k) (lent-meaning r keys values journal l)
-        ∙ told-same (readRefusal n k (meaningOf x)) (readNumber n k (history ds)) (readsIn (meaningOf x) n k) (reads (history ds) n k) e
+        ∙ told-same (readRefusal n k (meaningOf x)) (readNumber n k (history ds)) (readOf n k (meaningOf x)) (reads (history ds) n k) e
         (λ z.
         let y = passed (not (runs n (meaningOf x .records))) 2 (cond (eqb k 0) 3 0) (omega arith) z in
         let v = passed (eqb k 0) 3 0 (omega arith) (y .1) in
@@ -181,6 +181,6 @@ module _ {room : ℕ → Type 0} {ds : List Deed} {since : ℕ} {x : Cells} (r :
     checkpoint-answers T =
         rw (lent-passes r keys values journal l)
         (ap (checkpointAnswer (rowRoom (length keys)) T) (lent-meaning r keys values journal l)
-        ∙ room-same (checkpointRefusal T (meaningOf x)) (refusalIn (Checkpointed T) (history ds)) (length (lists (meaningOf x) T))
+        ∙ room-same (checkpointRefusal T (meaningOf x)) (refusalIn (Checkpointed T) (history ds)) (length (listOf T (meaningOf x)))
         (length (listIn (history ds .commitments) T)) (rowRoom (length keys)) (refused-is (Checkpointed T))
         (λ z. ap length (list-same (courseOf ds since x) (tie r) T (ltb-false T (x .head .low) (passed (ltb T (x .head .low)) 4 _ (omega arith) z .0)))))

@@ -14,8 +14,7 @@ use Rattle.rules.specs.Transactions.{runs}
 use Rattle.rules.specs.Lists.{among}
 use Rattle.rules.specs.Running.{running-runs}
 use Rattle.rules.specs.RoomLaws.{fewer}
-use Rattle.rules.specs.Conflicts.{conflict}
-use Rattle.rules.specs.Calls.{Store, lastOf, Call, Abort, Commit, refusal, answer}
+use Rattle.rules.specs.Calls.{Store, lastOf, conflictIn, Call, Abort, Commit, refusal, answer}
 use Rattle.journal_store.specs.Shape.{roomOf}
 use Rattle.journal_store.specs.Write.{number}
 use Rattle.history.specs.History.{Deed, numbers, history}
@@ -30,7 +29,7 @@ commit-not-12 n t s e =
     split (runs n (s .records))
     (λ u. split (leb t (lastOf s))
     (λ v. let z : _≡_ {A = ℕ} 10 12 = rw (u, v) at e in absurd (omega arith))
-    (λ v. split (conflict n (s .records))
+    (λ v. split (conflictIn n s)
     (λ w. let z : _≡_ {A = ℕ} 11 12 = rw (u, v, w) at e in absurd (omega arith))
     (λ w. let z : _≡_ {A = ℕ} 0 12 = rw (u, v, w) at e in absurd (omega arith))))
     (λ u. let z : _≡_ {A = ℕ} 2 12 = rw u at e in absurd (omega arith))

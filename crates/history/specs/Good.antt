@@ -8,10 +8,9 @@ use lib.ListN.{length}
 use Rattle.rules.specs.declared.Record.{Record}
 use Rattle.rules.specs.declared.Effect.{Effect}
 use Rattle.rules.specs.Kinds.{begun, committed, aborted}
-use Rattle.rules.specs.Transactions.{runs, running}
+use Rattle.rules.specs.Transactions.{snapshot, runs, running, mayWrite}
 use Rattle.rules.specs.Times.{last, above}
 use Rattle.rules.specs.Conflicts.{conflict}
-use Rattle.rules.specs.Recovery.{mayWrite}
 use Rattle.rules.specs.Calls.{updated}
 
 -- a begin with a fresh number in range and a snapshot from low to last, fewer than 8 running; an update by a running transaction of a key from 1 up,
@@ -19,7 +18,7 @@ use Rattle.rules.specs.Calls.{updated}
 pub data Step (low : ℕ) (older : List Record) : Record → Type 0 where
   begin : (n s : ℕ) → above 1 older ≤ n → n ≤ 4294967294 → low ≤ s → s ≤ last low older → length (running older) < 8 → Step low older (begun n s)
   update : (n k : ℕ) (e : Effect) → runs n older ≡ true → 1 ≤ k → mayWrite n k older ≡ true → Step low older (updated n k e)
-  commit : (n t : ℕ) → runs n older ≡ true → last low older < t → conflict n older ≡ false → Step low older (committed n t)
+  commit : (n t : ℕ) → runs n older ≡ true → last low older < t → conflict n (snapshot n older) older ≡ false → Step low older (committed n t)
   abort : (n : ℕ) → runs n older ≡ true → Step low older (aborted n)
 
 -- every record of a journal, the newest first, is such a step behind the older ones

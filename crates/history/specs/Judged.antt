@@ -10,10 +10,10 @@ use borrow.Author.Tests.{eqb-true, eqb-false, ne-eqb, leb-true, leb-false, ltb-t
 use Rattle.rules.specs.declared.Record.{Record}
 use Rattle.rules.specs.declared.Effect.the-variants.{Assign, Add}
 use Rattle.rules.specs.Kinds.{isBegin, isAssign, isUpdate, isCommit, begun, assigned, added, committed, aborted}
-use Rattle.rules.specs.Transactions.{runs, running}
+use Rattle.rules.specs.Transactions.{snapshot, runs, running, mayWrite}
 use Rattle.rules.specs.Times.{last, above}
 use Rattle.rules.specs.Conflicts.{conflict}
-use Rattle.rules.specs.Recovery.{formed, numbered, timely, mayWrite, limited, clear, judge, accepts}
+use Rattle.rules.specs.Recovery.{formed, numbered, timely, limited, clear, judge, accepts}
 use Rattle.rules.specs.Bools.{split, and-left, and-right}
 use Rattle.history.specs.Good.{Step, begin, update, commit, abort, Good, none, more}
 
@@ -65,9 +65,9 @@ module _ (low : ℕ) (older : List Record) (r : Record) where
       let f1 = both (eqb (r .zeros) 0) (eqb (r .key) 0 && eqb (r .value) 0) (rw (b, d) at f) in
       let f2 = both (eqb (r .key) 0) (eqb (r .value) 0) (f1 .1) in
       let t1 : ltb (last low older) (r .time) ≡ true = rw (b, d) at t in
-      let c1 : not (conflict (r .transaction) older) ≡ true = rw d at c in
+      let c1 : not (conflict (r .transaction) (snapshot (r .transaction) older) older) ≡ true = rw d at c in
       let s : Step low older (committed (r .transaction) (r .time)) = commit (r .transaction) (r .time) n1
-      (ltb-true _ _ t1) (not-true (conflict (r .transaction) older) c1) in
+      (ltb-true _ _ t1) (not-true (conflict (r .transaction) (snapshot (r .transaction) older) older) c1) in
       rw (rebuilt r 4 0 0 (r .time) (eqb-true _ _ d) (eqb-true _ _ (f1 .0)) (eqb-true _ _ (f2 .0)) (eqb-true _ _ (f2 .1)) refl) at s)
       (λ d.
       split (isUpdate r)

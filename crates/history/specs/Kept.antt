@@ -11,12 +11,11 @@ use Rattle.rules.specs.declared.Record.{Record}
 use Rattle.rules.specs.declared.Value.{Value}
 use Rattle.rules.specs.declared.Effect.the-variants.{Assign, Add}
 use Rattle.rules.specs.Kinds.{isBegin, isUpdate, isCommit, isEnd, committed}
-use Rattle.rules.specs.Transactions.{any, of, runs, firstBegin, snapshot, wrote, running}
+use Rattle.rules.specs.Transactions.{any, of, runs, firstBegin, snapshot, wrote, running, mayWrite}
 use Rattle.rules.specs.Times.{last}
 use Rattle.rules.specs.Values.{value}
 use Rattle.rules.specs.Conflicts.{wroteAfter, touched, clashes, conflict}
 use Rattle.rules.specs.Checkpoints.{raise, sift}
-use Rattle.rules.specs.Recovery.{mayWrite}
 use Rattle.rules.specs.Bools.{split, and-left, and-right, and-both, or-left, or-right, implies-false, and-false}
 use Rattle.rules.specs.KeptLaws.{raised, of-kept, above-sift, kept-fewer, running-sift, raised-begin, raised-end, raised-wrote, raised-keys, raised-effects, raised-snapshot}
 use Rattle.history.specs.Good.{begin, update, commit, abort, Good, none, more}
@@ -83,11 +82,11 @@ module _ (K : ℕ → Bool) (T : ℕ) where
 
   -- conflicts only go
   conflict-sift : (n : ℕ) (rs : List Record) → Fitting K T rs → K n ≡ true → any isBegin (of n rs) ≡ true
-      → conflict n rs ≡ false → conflict n (sift K T rs) ≡ false
+      → conflict n (snapshot n rs) rs ≡ false → conflict n (snapshot n (sift K T rs)) (sift K T rs) ≡ false
   conflict-sift n rs f h b =
       let u : ℕ = max T (firstBegin (of n rs)) in
       let e : snapshot n (sift K T rs) ≡ u = ap firstBegin (of-kept T K n h rs) ∙ raised-snapshot T (of n rs) b in
-      implies-false (conflict n (sift K T rs)) (conflict n rs)
+      implies-false (conflict n (snapshot n (sift K T rs)) (sift K T rs)) (conflict n (snapshot n rs) rs)
       (λ x. any-raised (clashes rs (snapshot n rs)) (clashes (sift K T rs) u) (of n rs) (λ r y.
       and-both (isUpdate r) (touched rs (snapshot n rs) (r .key) rs)
       (and-left (isUpdate r) (touched (sift K T rs) u (r .key) (sift K T rs)) y)

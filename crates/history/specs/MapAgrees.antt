@@ -36,7 +36,7 @@ use Rattle.versions.specs.Versions as versions
 pub data Says (all : List Record) (n : ℕ) : Place → Type 0 where
   idle : runs n all ≡ false → Says all n free
   busy : (s : ℕ) (rows : List Row) → runs n all ≡ true → s ≡ snapshot n all → rowKeys rows ≡ keysWritten (of n all)
-      → ((k : ℕ) → 1 ≤ k → wrote k (of n all) ≡ true → runningValue k rows ≡ readIn [] all n k) → Says all n (taken n s rows)
+      → ((k : ℕ) → 1 ≤ k → wrote k (of n all) ≡ true → runningValue k rows ≡ readIn [] all n (snapshot n all) k) → Says all n (taken n s rows)
 
 -- the map has the low, last and next number of the journal, a place for each running transaction, its values and its conflicts
 pub record Agree (m : MapStore) (low : ℕ) (all : List Record) : Type 0 where
@@ -176,7 +176,7 @@ module _ (m : MapStore) (low : ℕ) (all : List Record) (h : Agree m low all) (g
         }
 
     -- commit
-    pub agree-commit : (t : ℕ) → last low all < t → conflict n all ≡ false
+    pub agree-commit : (t : ℕ) → last low all < t → conflict n (snapshot n all) all ≡ false
         → Agree (record { low = m .low; last = t; next = m .next; places = amend n free (m .places); versions = stamp t (rowsAt (placeOf n (m .places))) (m .versions) }) low (committed n t ∷ all)
     agree-commit t later′ clear = go (placeOf n (m .places)) (h .says n)
       where
@@ -226,7 +226,7 @@ module _ (m : MapStore) (low : ℕ) (all : List Record) (h : Agree m low all) (g
 
   -- the running value is rule 3.5's
   pub current-is : (n k s : ℕ) (rows : List Row) → 1 ≤ k → runs n all ≡ true → s ≡ snapshot n all → rowKeys rows ≡ keysWritten (of n all)
-      → (wrote k (of n all) ≡ true → runningValue k rows ≡ readIn [] all n k) → current k s rows (m .versions) ≡ readIn [] all n k
+      → (wrote k (of n all) ≡ true → runningValue k rows ≡ readIn [] all n (snapshot n all) k) → current k s rows (m .versions) ≡ readIn [] all n (snapshot n all) k
   current-is n k s rows i u v keys f =
       let hk : hasKey k rows ≡ wrote k (of n all) = has-among k rows ∙ ap (among k) keys ∙ wrote-among k (of n all) in
       split (wrote k (of n all))
@@ -272,7 +272,7 @@ module _ (m : MapStore) (low : ℕ) (all : List Record) (h : Agree m low all) (g
             (λ j i w.
             rw (note-first j (r .key) x rows, z, hb, hc, hu)
             (split (eqb (r .key) j)
-            (λ e. rw (e, cur, ← eqb-true (r .key) j e) (applied-shown (effectOf r) (readIn [] all (r .transaction) (r .key))))
+            (λ e. rw (e, cur, ← eqb-true (r .key) j e) (applied-shown (effectOf r) (readIn [] all (r .transaction) (snapshot (r .transaction) all) (r .key))))
             (λ e. rw e (f j i (rw (z, hu, e) at w)))))
             in
             record {

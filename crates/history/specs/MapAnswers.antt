@@ -10,13 +10,12 @@ use Rattle.rules.specs.declared.Record.{Record}
 use Rattle.rules.specs.declared.Effect.{Effect}
 use Rattle.rules.specs.declared.Effect.the-variants.{Assign, Add}
 use Rattle.rules.specs.Kinds.{isUpdate, assigned, added}
-use Rattle.rules.specs.Transactions.{any, of, runs, snapshot, wrote, keysWritten}
+use Rattle.rules.specs.Transactions.{any, of, runs, snapshot, wrote, keysWritten, mayWrite}
 use Rattle.rules.specs.Values.{Row, readIn}
 use Rattle.rules.specs.Lists.{among, rowKeys}
-use Rattle.rules.specs.Conflicts.{touched, conflict}
+use Rattle.rules.specs.Conflicts.{touched}
 use Rattle.rules.specs.Checkpoints.{held}
-use Rattle.rules.specs.Recovery.{mayWrite}
-use Rattle.rules.specs.Calls.{Store, nextOf, Begin, Update, Abort, Commit, refusal}
+use Rattle.rules.specs.Calls.{Store, nextOf, conflictIn, Begin, Update, Abort, Commit, refusal}
 use Rattle.rules.specs.Bools.{split, or-right, not-both}
 use Rattle.rules.specs.Columns.{length-keys}
 use Rattle.rules.specs.Running.{wrote-among}
@@ -71,7 +70,7 @@ module _ (m : MapStore) (h : Store) (a : Agree m (h .low) (h .records)) (g : San
 
   -- the map's conflict is rule 3.6's
   clash-same : (n s : ℕ) (rows : List Row) → runs n (h .records) ≡ true → s ≡ snapshot n (h .records)
-      → rowKeys rows ≡ keysWritten (of n (h .records)) → clash s rows (m .versions) ≡ conflict n (h .records)
+      → rowKeys rows ≡ keysWritten (of n (h .records)) → clash s rows (m .versions) ≡ conflictIn n h
   clash-same n s rows u v keys =
       let z = snapshot n (h .records) in
       rw v
@@ -171,10 +170,10 @@ agree (went {d = d} {ds = ds} l e) = agree-deed (mapped ds) (whole ds) (agree l)
 
 -- a read in the map is a read in the whole journal
 pub map-read : {ds : List Deed} → Lawful ds → (n k : ℕ) → runs n (whole ds .records) ≡ true → 1 ≤ k
-    → map.readIn n k (mapped ds) ≡ readIn [] (whole ds .records) n k
+    → map.readIn n k (mapped ds) ≡ readIn [] (whole ds .records) n (snapshot n (whole ds .records)) k
 map-read {ds} l n k u i = go (placeOf n (mapped ds .places)) (agree l .says n)
   where
-    go : (p : Place) → Says (whole ds .records) n p → readAt k p (mapped ds .versions) ≡ readIn [] (whole ds .records) n k
+    go : (p : Place) → Says (whole ds .records) n p → readAt k p (mapped ds .versions) ≡ readIn [] (whole ds .records) n (snapshot n (whole ds .records)) k
     go p (idle x) = not-both (runs n (whole ds .records)) u x
     go p (busy s rows x v keys w) =
         current-is (mapped ds) (whole ds .low) (whole ds .records) (agree l) (sane (whole ds) (sound l)) n k s rows i x v keys (w k i)

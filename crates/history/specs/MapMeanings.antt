@@ -7,7 +7,6 @@ use native.Mathlib.Omega.{arith}
 use lib.ListN.{length}
 use borrow.Author.Tests.{ltb-false}
 use lib.Dec.{ltb}
-use Rattle.rules.specs.declared.Record.{Record}
 use Rattle.rules.specs.declared.Value.the-variants.{Present}
 use Rattle.rules.specs.Passed.{passed}
 use Rattle.rules.specs.Bools.{not-both}

@@ -2,7 +2,7 @@
 -- Assumes nothing.
 use mathlib.Core.Path.{_≡_, refl, ap, sym, _∙_, subst}
 use mathlib.Core.Bool.{true, not, _&&_}
-use mathlib.Core.List.{List, [], _∷_, _++_}
+use mathlib.Core.List.{List, _∷_, _++_}
 use Prim.Native.Nat.{ℕ, suc, _+_, _-_, _*_, _/_, _^_, _<_, _≤_}
 use native.Mathlib.Nat.{min-le-right}
 use native.Mathlib.Omega.{arith}
@@ -18,7 +18,7 @@ use Rattle.rules.specs.Lists.{rowKeys}
 use Rattle.rules.specs.Columns.{rowValues}
 use Rattle.rules.specs.Checkpoints.{kept}
 use Rattle.rules.specs.Recovery.{survivors}
-use Rattle.rules.specs.Calls.{Store, nextOf, Call, recordOf, refusal, checkpointRefusal, need, answer, checkpointAnswer}
+use Rattle.rules.specs.Calls.{Store, nextOf, Call, recordOf, refusal, checkpointRefusal, need, answer, checkpointAnswer, listOf}
 use Rattle.rules.specs.Passed.{fitting}
 use Rattle.rules.specs.RoomLaws.{Roomy, room-for-each}
 use Rattle.record.specs.Bytes.{Bytes, newest, appended}
@@ -28,7 +28,6 @@ use Rattle.compact.specs.Compact.{compacted}
 use Rattle.journal_store.specs.declared.Head.{Head}
 use Rattle.journal_store.specs.Shape.{grown, isShaped, Shaped, shape, roomOf, rowRoom, meaning}
 use Rattle.journal_store.specs.Write.{Wrote, number, room-left, need-some}
-use Rattle.journal_store.specs.List.{listOf}
 use Rattle.journal_store.specs.Checkpoint.{checkpointHead, checkpointNumber}
 use Rattle.journal_store.specs.Recover.{risingKeys, journalBytes, isRecoverable, surviving, recoverReply, recoveredHead, Recoverable, recoverable, Recovered}
 use Rattle.journal_store.specs.Tie.{SizedCall, fit-call, push-meaning, checkpoint-meaning, recover-meaning}

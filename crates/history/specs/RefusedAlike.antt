@@ -67,7 +67,7 @@ begun-of n rs u = and-left (any isBegin (of n rs)) (not (any isEnd (of n rs))) u
 
 module _ (low f fb : ℕ) (va vb : ℕ → Value) (a b : List Record) (h : Alike low f fb va vb a b) (g : Good low a) where
   -- a commit conflicts in both or in none
-  pub conflict-same : (n : ℕ) → runs n a ≡ true → conflict n a ≡ conflict n b
+  pub conflict-same : (n : ℕ) → runs n a ≡ true → conflict n (snapshot n a) a ≡ conflict n (snapshot n b) b
   conflict-same n u =
       let o : of n a ≡ of n b = h .own n u in
       let l : low ≤ firstBegin (of n b) = rw o at (snapshot-low g n (begun-of n a u)) in

@@ -1,20 +1,19 @@
 -- Rising rows in front of two columns, by the places of the columns. Assumes nothing.
 use mathlib.Core.Path.{_≡_, refl, ap, sym, _∙_}
 use mathlib.Core.Bool.{true, false≢true}
-use mathlib.Core.List.{List, [], _∷_, _++_}
-use Prim.Native.Nat.{ℕ, zero, suc, _+_, _<_, _≤_}
+use mathlib.Core.List.{List, [], _∷_}
+use Prim.Native.Nat.{ℕ, zero, suc, _<_, _≤_}
 use native.Mathlib.Omega.{arith}
 use lib.Dec.{eqb, ltb}
 use lib.ListN.{length, drop, getD, List·getD-append}
 use borrow.Author.Tests.{eqb-true, eq-eqb, ne-eqb, ltb-true}
-use Rattle.rules.specs.declared.Value.the-variants.{Absent, Present}
+use Rattle.rules.specs.declared.Value.the-variants.{Present}
 use Rattle.rules.specs.Bools.{split, and-left, and-right}
 use Rattle.rules.specs.Values.{Row, rowValue}
 use Rattle.rules.specs.Lists.{rising, rowKeys}
 use Rattle.rules.specs.Columns.{rowValues, length-keys, length-values}
-use Rattle.rules.specs.Listing.{Lists}
 use Rattle.answer.specs.Reply.{Reply, accepted}
-use Rattle.history.specs.History.{Commitment, valueIn, listIn, writtenBy, isPresent}
+use Rattle.history.specs.History.{Commitment, valueIn, listIn, isPresent}
 use Rattle.history.specs.Cells.{Shows, Registers}
 use Rattle.history.specs.Listed.{value-present, history-lists}
 

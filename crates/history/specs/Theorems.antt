@@ -6,11 +6,11 @@ use mathlib.Core.Bool.{true}
 use mathlib.Core.List.{List, _∷_}
 use mathlib.Core.Logic.{_≢_}
 use Prim.Native.Nat.{ℕ, _≤_}
-use lib.ListN.{length, drop}
+use lib.ListN.{length}
 use Rattle.rules.specs.declared.Value.the-variants.{Absent, Present}
 use Rattle.rules.specs.declared.Effect.the-variants.{Assign}
 use Rattle.rules.specs.Lists.{among}
-use Rattle.rules.specs.Calls.{Call, Update, Abort, Commit, withRoom}
+use Rattle.rules.specs.Calls.{Call, Update, Abort, Commit}
 use Rattle.record.specs.Bytes.{Bytes}
 use Rattle.answer.specs.Reply.{Reply, accepted, told}
 use Rattle.journal_store.specs.declared.Head.{Head}
@@ -22,7 +22,7 @@ use Rattle.journal_store.specs.Recover.{Recovered}
 use Rattle.map_store.specs.declared.MapHead.{MapHead}
 use Rattle.map_store.specs.Contracts.{readReply, lookupReply, ListedAt}
 use Rattle.history.specs.History.{Deed, Did, numbers, history, restarted, valueIn, reads, listIn}
-use Rattle.history.specs.Refusals.{lastIn, timeRefused, givesIn, deedGives, numberIn, mapNumberIn, lookupNumber, readNumber}
+use Rattle.history.specs.Refusals.{lastIn, givesIn, deedGives, numberIn, mapNumberIn, lookupNumber, readNumber}
 use Rattle.history.specs.Lawful.{Lawful}
 use Rattle.history.specs.Cells.{Cells, end, Lent, Registers, Cut, lost, counting, Reached}
 use Rattle.history.specs.MapCells.{MapCells, MapLent, Does, MapReached}

@@ -9,7 +9,7 @@ use Rattle.rules.specs.declared.Record.{Record}
 use Rattle.rules.specs.Transactions.{of, runs, snapshot}
 use Rattle.rules.specs.Values.{readIn}
 use Rattle.rules.specs.Lists.{among}
-use Rattle.rules.specs.Calls.{Store, Abort}
+use Rattle.rules.specs.Calls.{Abort}
 use Rattle.rules.specs.Bools.{split}
 use Rattle.history.specs.History.{Deed, Did, numbers, history, aborting, valueIn, reads}
 use Rattle.history.specs.Refusals.{refusalIn}
@@ -60,7 +60,7 @@ pub lawful-allowed : {ds : List Deed} → Lawful ds → {d : Deed} → refusalIn
 lawful-allowed {ds} l {d} e = allowed (whole ds) d (whole-refuses l d ∙ e)
 
 -- a read in the whole journal is a read in the history
-pub read-told : {ds : List Deed} → Lawful ds → (n k : ℕ) → runs n (whole ds .records) ≡ true → readIn [] (whole ds .records) n k ≡ reads (history ds) n k
+pub read-told : {ds : List Deed} → Lawful ds → (n k : ℕ) → runs n (whole ds .records) ≡ true → readIn [] (whole ds .records) n (snapshot n (whole ds .records)) k ≡ reads (history ds) n k
 read-told {ds} l n k u =
     let b : List Record = whole ds .records in
     let t = tells l in

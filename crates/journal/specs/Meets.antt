@@ -10,10 +10,10 @@ use Rattle.rules.specs.declared.Record.{Record}
 use Rattle.rules.specs.Bools.{and-left, and-right, and-both, iff}
 use Rattle.rules.specs.Kinds.{isUpdate, isCommit}
 use Rattle.rules.specs.Effects.{writes}
-use Rattle.rules.specs.Transactions.{any, of, wrote, snapshot}
+use Rattle.rules.specs.Transactions.{any, of, wrote}
 use Rattle.rules.specs.Checkpoints.{late}
 use Rattle.rules.specs.Conflicts.{wroteAfter, touched, clashes, conflict}
-use Rattle.journal.specs.Some.{Some, any-some, some-any, in-of, of-in}
+use Rattle.journal.specs.Some.{any-some, some-any, in-of, of-in}
 
 -- an update record of a key in own, of a transaction that committed later than s
 abbrev pub meets : List Record → List Record → ℕ → Record → Bool
@@ -74,5 +74,5 @@ module _ (n s : ℕ) (rs : List Record) where
       some-any (clashes rs s) r (of n rs) (a .here)
       (and-both (isUpdate r) (touched rs s (r .key) rs) u (some-any (wroteAfter rs s (r .key)) c rs (o .0) after))
 
-  pub meets-clashes : any (meets rs (of n rs) s) rs ≡ any (clashes rs s) (of n rs)
-  meets-clashes = iff (any (meets rs (of n rs) s) rs) (any (clashes rs s) (of n rs)) back there
+  pub meets-conflict : any (meets rs (of n rs) s) rs ≡ conflict n s rs
+  meets-conflict = iff (any (meets rs (of n rs) s) rs) (any (clashes rs s) (of n rs)) back there

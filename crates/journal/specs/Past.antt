@@ -1,20 +1,20 @@
 -- No commit is later than last, and nobody conflicts with a snapshot that no commit is later than. Assumes nothing.
 use mathlib.Core.Path.{_≡_, refl, sym, _∙_}
-use mathlib.Core.Bool.{Bool, true, false, _&&_, _||_, false≢true}
+use mathlib.Core.Bool.{true, false, false≢true}
 use mathlib.Core.List.{List, [], _∷_}
 use Prim.Native.Nat.{ℕ, zero, suc, _*_, _<_, _≤_}
 use native.Mathlib.Nat.{le-max-left, le-max-right, max-le}
 use native.Mathlib.Omega.{arith}
 use borrow.Author.Tests.{eqb-true, eqb-false, le-ltb, ltb-false}
-use lib.Dec.{eqb, ltb}
+use lib.Dec.{eqb}
 use Rattle.rules.specs.declared.Record.{Record}
 use Rattle.rules.specs.Bools.{split, or-none-left, or-none-right}
 use Rattle.rules.specs.Kinds.{isUpdate, isCommit, recordBytes}
-use Rattle.rules.specs.Transactions.{any, of, wrote}
+use Rattle.rules.specs.Transactions.{any}
 use Rattle.rules.specs.Times.{last}
 use Rattle.rules.specs.Checkpoints.{late}
 use Rattle.record.specs.Bytes.{recordAt, newest}
-use Rattle.rules.specs.Conflicts.{wroteAfter, touched, clashes}
+use Rattle.rules.specs.Conflicts.{wroteAfter, clashes}
 
 -- every commit of some records is at or before l
 pub data Past (l : ℕ) : List Record → Type 0 where

@@ -6,11 +6,10 @@ use Prim.Native.Nat.{ℕ}
 use lib.Dec.{ltb}
 use lib.ListN.{drop}
 use Rattle.rules.specs.declared.Record.{Record}
-use Rattle.rules.specs.Transactions.{any, of, runs, running}
+use Rattle.rules.specs.Transactions.{of, runs, running, mayWrite}
 use Rattle.rules.specs.Times.{last, next}
-use Rattle.rules.specs.Conflicts.{clashes}
+use Rattle.rules.specs.Conflicts.{conflict}
 use Rattle.rules.specs.Checkpoints.{held}
-use Rattle.rules.specs.Recovery.{mayWrite}
 use Rattle.journal.specs.declared.Base.{Base}
 use Rattle.journal.specs.declared.Journal.{Journal}
 use Rattle.journal.specs.declared.transactions.Trace.{Trace}
@@ -65,5 +64,5 @@ module _ (rs : List Record) where
       → Gathered (lates s rs) used b entry other → (a ≡ b) × (exit ≡ other)
   late-numbers-unique s used a b entry exit other p q = once (lates s rs) used a b entry exit other p q
 
-  pub conflict-unique : (n snapshot : ℕ) (a b : Bool) → a ≡ any (clashes rs snapshot) (of n rs) → b ≡ any (clashes rs snapshot) (of n rs) → a ≡ b
+  pub conflict-unique : (n snapshot : ℕ) (a b : Bool) → a ≡ conflict n snapshot rs → b ≡ conflict n snapshot rs → a ≡ b
   conflict-unique n snapshot a b p q = p ∙ sym q

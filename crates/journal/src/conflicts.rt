@@ -3,9 +3,8 @@ ghost use mathlib.Core.Path.{_≡_};
 ghost use Prim.Native.Nat.{_*_, _≤_};
 ghost use lib.ListN.{length, take};
 ghost use Rattle.rules.specs.Kinds.{recordBytes};
-ghost use Rattle.rules.specs.Transactions.{any, of, keysWritten};
-ghost use Rattle.rules.specs.Conflicts.{clashes};
-ghost use Rattle.rules.specs.Recovery.{mayWrite};
+ghost use Rattle.rules.specs.Transactions.{any, of, keysWritten, mayWrite};
+ghost use Rattle.rules.specs.Conflicts.{conflict as conflictOf};
 ghost use Rattle.record.specs.Bytes.{newest};
 ghost use Rattle.journal.specs.Past.{Past};
 ghost use Rattle.journal.specs.Gathered.{newKey, metIn, lates, Gathered};
@@ -113,7 +112,7 @@ fn any_met(
 // Whether somebody who committed later than a time wrote a key that the transaction has written.
 fn conflict_since(journal: &[u8], used: usize, n: u32, s: u64) -> bool
     requires { ⌜ (used ≤ 2048) × (used * recordBytes ≤ length (now journal)) ⌝ }
-    ensures { λ b. ⌜ b ≡ any (clashes (newest used (now (journal .entry))) s) (of n (newest used (now (journal .entry)))) ⌝ }
+    ensures { λ b. ⌜ b ≡ conflictOf n s (newest used (now (journal .entry))) ⌝ }
 {
     let mut keys = [0u32; Journal::RECORDS];
     let written = keys_written(journal, used, n, &mut keys);
@@ -126,7 +125,7 @@ fn conflict_since(journal: &[u8], used: usize, n: u32, s: u64) -> bool
 // than last, so that a snapshot at last is clear at once.
 pub fn conflict(journal: &[u8], used: usize, n: u32, snapshot: u64, last: u64) -> bool
     requires { ⌜ (used ≤ 2048) × (used * recordBytes ≤ length (now journal)) × Past last (newest used (now journal)) ⌝ }
-    ensures { λ b. ⌜ b ≡ any (clashes (newest used (now (journal .entry))) snapshot) (of n (newest used (now (journal .entry)))) ⌝ }
+    ensures { λ b. ⌜ b ≡ conflictOf n snapshot (newest used (now (journal .entry))) ⌝ }
 {
     if last <= snapshot {
         return false;

@@ -5,7 +5,7 @@ ghost use lib.ListN.{length};
 ghost use mathlib.Core.Bool.{_&&_};
 ghost use lib.Dec.{leb, ltb};
 ghost use Rattle.rules.specs.Kinds.{recordBytes, isCommit};
-ghost use Rattle.rules.specs.Times.{lastStep, aboveStep, last as lastIn, next as nextIn};
+ghost use Rattle.rules.specs.Times.{lastStep, last as lastIn, next as nextIn};
 ghost use Rattle.rules.specs.Transactions.{any};
 ghost use Rattle.rules.specs.Checkpoints.{late};
 ghost use Rattle.record.specs.Bytes.{newest};

@@ -12,15 +12,14 @@ use Rattle.rules.specs.Checkpoints.{held, kept}
 use Rattle.rules.specs.Values.{Row}
 use Rattle.rules.specs.Lists.{rowKeys}
 use Rattle.rules.specs.Columns.{rowValues, Filled}
-use Rattle.rules.specs.Calls.{Store, lastOf, nextOf, withRoom, checkpointRefusal, checkpointAnswer}
+use Rattle.rules.specs.Calls.{Store, lastOf, nextOf, withRoom, checkpointRefusal, checkpointAnswer, listOf}
 use Rattle.answer.specs.declared.Refusal.{Refusal}
 use Rattle.answer.specs.declared.Refusal.the-variants.{BadShape, NoRoom}
 use Rattle.answer.specs.Reply.{Reply, numberOf, placeOf, refused, accepted, told, after}
 use Rattle.answer.specs.Laws.{refused-some, after-refused}
-use Rattle.compact.specs.Compact.{compacted, Compacted}
+use Rattle.compact.specs.Compact.{compacted}
 use Rattle.journal_store.specs.declared.Head.{Head}
 use Rattle.journal_store.specs.Shape.{isShaped, rowRoom, meaning}
-use Rattle.journal_store.specs.List.{listOf}
 
 -- the number that checkpoint gets
 abbrev pub checkpointNumber : ℕ → Head → List ℕ → List ℕ → List ℕ → ℕ

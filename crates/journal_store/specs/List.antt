@@ -1,28 +1,21 @@
 -- What list answers, and what it leaves in its two lent columns: rule 3.4. Assumes nothing.
-use mathlib.Core.Path.{_≡_, refl, sym, ap, _∙_}
+use mathlib.Core.Path.{_≡_, sym, ap, _∙_}
 use mathlib.Core.Bool.{Bool, true, false, cond, _&&_}
 use mathlib.Core.List.{List, _++_}
 use Prim.Native.Nat.{ℕ, _<_, _≤_}
-use native.Mathlib.Omega.{arith}
 use lib.Dec.{eqb, ltb}
 use lib.ListN.{length, drop}
-use borrow.Author.Tests.{lt-ltb, le-ltb, le-leb, lt-leb, eqb-true, eqb-false, leb-true}
+use borrow.Author.Tests.{lt-ltb, le-ltb, le-leb, lt-leb, eqb-true}
 use Rattle.rules.specs.declared.Value.the-variants.{Present}
-use Rattle.rules.specs.Bools.{split, and-left, and-right}
-use Rattle.rules.specs.Passed.{fitting}
-use Rattle.rules.specs.Values.{Row}
-use Rattle.rules.specs.Lists.{rowKeys, listAt}
+use Rattle.rules.specs.Bools.{and-left, and-right}
+use Rattle.rules.specs.Lists.{rowKeys}
 use Rattle.rules.specs.Columns.{rowValues, Filled}
-use Rattle.rules.specs.Calls.{Store, lastOf, listRefusal, listAnswer}
+use Rattle.rules.specs.Calls.{Store, lastOf, listOf, listAnswer}
 use Rattle.answer.specs.declared.Refusal.the-variants.{BadShape}
 use Rattle.answer.specs.Reply.{Reply, refused, accepted, told, after}
 use Rattle.answer.specs.Laws.{after-refused}
 use Rattle.journal_store.specs.declared.Head.{Head}
 use Rattle.journal_store.specs.Shape.{isShaped, meaning, Shaped, shape}
-
--- the list at t of what the store means
-abbrev pub listOf : ℕ → Store → List Row
-listOf t s = listAt (s .base) (s .records) t
 
 -- what a store of good shape answers where so many rows are lent
 abbrev pub listDecided : ℕ → ℕ → Store → Reply

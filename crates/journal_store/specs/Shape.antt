@@ -1,6 +1,6 @@
 -- The journal store as it is lent: its shape, its room, and what it means. Assumes nothing.
-use mathlib.Core.Path.{_≡_, refl}
-use mathlib.Core.Bool.{Bool, true, false, not, _&&_}
+use mathlib.Core.Path.{_≡_}
+use mathlib.Core.Bool.{Bool, true, not, _&&_}
 use mathlib.Core.List.{List}
 use Prim.Native.Nat.{ℕ, _+_, _*_, _/_, _≤_, min}
 use native.Mathlib.Omega.{arith}
@@ -11,8 +11,6 @@ use Rattle.rules.specs.Kinds.{recordBytes}
 use Rattle.rules.specs.Columns.{firstRows}
 use Rattle.rules.specs.Calls.{Store}
 use Rattle.record.specs.Bytes.{newest}
-use Rattle.journal.specs.declared.Base.{Base}
-use Rattle.journal.specs.declared.Journal.{Journal}
 use Rattle.journal.specs.Kinds.{emptyBase, emptyJournal}
 use Rattle.journal_store.specs.declared.Head.{Head}
 

@@ -1,31 +1,28 @@
 -- Accepted calls leave a store of good shape: counts within limits and room, columns paired. Assumes nothing.
-use mathlib.Core.Path.{_≡_, sym, _∙_}
-use mathlib.Core.Bool.{true, false, not}
+use mathlib.Core.Path.{_≡_}
+use mathlib.Core.Bool.{true}
 use mathlib.Core.List.{List, _++_}
-use Prim.Native.Nat.{ℕ, _+_, _*_, _/_, _≤_, min}
+use Prim.Native.Nat.{ℕ, _+_, _*_, _/_, _≤_}
 use native.Mathlib.Nat.{min-le-right, min-le-left}
 use native.Mathlib.Omega.{arith}
-use lib.Dec.{eqb}
 use lib.ListN.{length, drop, length-append, length-drop}
 use borrow.Author.Tests.{le-leb, eq-eqb, ne-eqb}
-use Rattle.rules.specs.Bools.{split}
 use Rattle.rules.specs.Kinds.{recordBytes}
 use Rattle.rules.specs.Passed.{fitting}
 use Rattle.rules.specs.Values.{Row}
 use Rattle.rules.specs.Lists.{rowKeys}
 use Rattle.rules.specs.Columns.{rowValues, length-keys, length-values}
-use Rattle.rules.specs.Checkpoints.{kept, known}
+use Rattle.rules.specs.Checkpoints.{kept}
 use Rattle.rules.specs.Recovery.{done, survivors}
 use Rattle.rules.specs.Times.{next}
-use Rattle.rules.specs.Calls.{Store, Call, nextOf, recordOf, need, answer, checkpointRefusal, checkpointAnswer}
-use Rattle.record.specs.Bytes.{newest, appended}
+use Rattle.rules.specs.Calls.{Call, nextOf, recordOf, answer, checkpointRefusal, checkpointAnswer, listOf}
+use Rattle.record.specs.Bytes.{appended}
 use Rattle.record.specs.Laws.{length-newest, length-appended}
 use Rattle.compact.specs.Compact.{compacted}
 use Rattle.compact.specs.Laws.{length-compacted, length-kept, length-only}
 use Rattle.journal_store.specs.declared.Head.{Head}
 use Rattle.journal_store.specs.Shape.{grown, isShaped, Shaped, roomOf, rowRoom, meaning}
 use Rattle.journal_store.specs.Write.{room-left, need-some}
-use Rattle.journal_store.specs.List.{listOf}
 use Rattle.journal_store.specs.Checkpoint.{checkpointHead}
 use Rattle.journal_store.specs.Recover.{surviving, recoveredHead, Recoverable}
 

@@ -1,15 +1,12 @@
 -- What the tests of a call, made in section 6's order, let it answer: on any store, one law for each way out. Assumes nothing.
-use mathlib.Core.Path.{_≡_, refl, sym, ap, _∙_}
+use mathlib.Core.Path.{_≡_, sym, ap, _∙_}
 use mathlib.Core.Bool.{Bool, true, false}
 use Prim.Native.Nat.{ℕ, _+_, _<_, _≤_}
 use lib.Dec.{ltb}
 use lib.ListN.{length}
 use borrow.Author.Tests.{lt-ltb, le-ltb, le-leb, lt-leb, eq-eqb, ne-eqb}
 use Rattle.rules.specs.declared.Effect.{Effect}
-use Rattle.rules.specs.Transactions.{runs, running}
-use Rattle.rules.specs.Conflicts.{conflict}
-use Rattle.rules.specs.Recovery.{mayWrite}
-use Rattle.rules.specs.Calls.{Store, Call, Begin, Update, Abort, Commit, answer, gives, lastOf, nextOf}
+use Rattle.rules.specs.Calls.{Store, Call, Begin, Update, Abort, Commit, answer, gives, lastOf, nextOf, runningOf, runsIn, mayWriteIn, conflictIn}
 use Rattle.answer.specs.Reply.{told}
 use Rattle.journal_store.specs.Write.{decided}
 
@@ -26,7 +23,7 @@ module _ (room : ℕ) (s : Store) where
       pub begin-future : f ≡ true → told 5 (gives (Begin t) s) ≡ decided (Begin t) room s
       begin-future b = say (Begin t) 5 (rw (le-ltb t (s .low) a, sym e ∙ b))
 
-      module _ (b : f ≡ false) (r : ℕ) (m : r ≡ length (running (s .records))) where
+      module _ (b : f ≡ false) (r : ℕ) (m : r ≡ length (runningOf s)) where
         pub begin-many : 8 ≤ r → told 6 (gives (Begin t) s) ≡ decided (Begin t) room s
         begin-many d = say (Begin t) 6 (rw (le-ltb t (s .low) a, sym e ∙ b, ← m, le-leb 8 r d))
 
@@ -64,7 +61,7 @@ module _ (room : ℕ) (s : Store) where
                   le-leb (used + (2 + r)) room i,
                 ))
 
-  module _ (n : ℕ) (b : Bool) (e : b ≡ runs n (s .records)) where
+  module _ (n : ℕ) (b : Bool) (e : b ≡ runsIn n s) where
     pub abort-unknown : b ≡ false → told 2 (gives (Abort n) s) ≡ decided (Abort n) room s
     abort-unknown f = say (Abort n) 2 (rw (sym e ∙ f))
 
@@ -86,7 +83,7 @@ module _ (room : ℕ) (s : Store) where
         pub commit-later : t ≤ l → told 10 (gives (Commit n t) s) ≡ decided (Commit n t) room s
         commit-later i = say (Commit n t) 10 (rw (sym e ∙ f, ← g, le-leb t l i))
 
-        module _ (i : l < t) (c : Bool) (d : c ≡ conflict n (s .records)) where
+        module _ (i : l < t) (c : Bool) (d : c ≡ conflictIn n s) where
           pub commit-conflict : c ≡ true → told 11 (gives (Commit n t) s) ≡ decided (Commit n t) room s
           commit-conflict h = say (Commit n t) 11 (rw (sym e ∙ f, ← g, lt-leb t l i, sym d ∙ h))
 
@@ -101,11 +98,11 @@ module _ (room : ℕ) (s : Store) where
         pub update-key : k ≡ 0 → told 3 (gives (Update n k x) s) ≡ decided (Update n k x) room s
         update-key z = say (Update n k x) 3 (rw (sym e ∙ f, eq-eqb k 0 z))
 
-        module _ (z : k ≡ 0 → ⊥) (m : Bool) (d : m ≡ mayWrite n k (s .records)) where
+        module _ (z : k ≡ 0 → ⊥) (m : Bool) (d : m ≡ mayWriteIn n k s) where
           pub update-full : m ≡ false → told 8 (gives (Update n k x) s) ≡ decided (Update n k x) room s
           update-full h = say (Update n k x) 8 (rw (sym e ∙ f, ne-eqb k 0 z, sym d ∙ h))
 
-          module _ (h : m ≡ true) (r : ℕ) (g : r ≡ length (running (s .records))) (used : ℕ) (u : length (s .records) ≡ used) where
+          module _ (h : m ≡ true) (r : ℕ) (g : r ≡ length (runningOf s)) (used : ℕ) (u : length (s .records) ≡ used) where
             pub update-room : room < used + (1 + r) → told 12 (gives (Update n k x) s) ≡ decided (Update n k x) room s
             update-room o = say (Update n k x) 12 (rw (sym e ∙ f, ne-eqb k 0 z, sym d ∙ h, ← g, u, lt-leb (used + (1 + r)) room o))
 

@@ -1,7 +1,7 @@
 -- What a call does to the lent cells is what the rules do to their meaning: the tie by which proofs on records hold of the bytes. Assumes nothing.
-use mathlib.Core.Path.{_≡_, refl, sym, ap, _∙_}
+use mathlib.Core.Path.{_≡_}
 use mathlib.Core.List.{List, _++_}
-use Prim.Native.Nat.{ℕ, suc, _+_, _*_, _/_, _^_, _<_, _≤_}
+use Prim.Native.Nat.{ℕ, _+_, _*_, _/_, _^_, _<_, _≤_}
 use native.Mathlib.Nat.{min-le-right}
 use native.Mathlib.Numerals.{add-one}
 use native.Mathlib.Omega.{arith}
@@ -15,15 +15,14 @@ use Rattle.rules.specs.Lists.{rowKeys}
 use Rattle.rules.specs.Columns.{rowValues, front-rows}
 use Rattle.rules.specs.Checkpoints.{kept}
 use Rattle.rules.specs.Recovery.{done, survivors}
-use Rattle.rules.specs.Calls.{Store, Call, Begin, Update, Abort, Commit, recordOf, nextOf, push, checkpointed}
-use Rattle.record.specs.Bytes.{Bytes, newest, appended}
+use Rattle.rules.specs.Calls.{Store, Call, Begin, Update, Abort, Commit, recordOf, push, checkpointed, listOf}
+use Rattle.record.specs.Bytes.{Bytes, appended}
 use Rattle.record.specs.Laws.{Fit, newest-appended}
 use Rattle.record.specs.Laid.{fit-newest}
 use Rattle.compact.specs.Compact.{compacted}
 use Rattle.compact.specs.Laws.{newest-compacted, fit-kept, fit-only}
 use Rattle.journal_store.specs.declared.Head.{Head}
 use Rattle.journal_store.specs.Shape.{grown, meaning}
-use Rattle.journal_store.specs.List.{listOf}
 use Rattle.journal_store.specs.Checkpoint.{checkpointHead}
 use Rattle.journal_store.specs.Recover.{recoveredHead, surviving}
 

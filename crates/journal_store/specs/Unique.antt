@@ -1,13 +1,11 @@
 -- No second answer satisfies the contract of a public function of the journal store: not another answer, head or cell. Assumes nothing.
-use mathlib.Core.Path.{_≡_, sym, ap, _∙_}
+use mathlib.Core.Path.{_≡_, sym, _∙_}
 use mathlib.Core.Bool.{Bool}
 use mathlib.Core.List.{List}
 use Prim.Native.Nat.{ℕ}
 use Rattle.rules.specs.declared.Effect.{Effect}
 use Rattle.rules.specs.Calls.{Store, Call, Begin, Update, Abort, Commit}
-use Rattle.answer.specs.declared.Begun.{Begun}
 use Rattle.answer.specs.declared.Got.{Got}
-use Rattle.answer.specs.declared.Done.{Done}
 use Rattle.answer.specs.declared.Listed.{Listed}
 use Rattle.answer.specs.Reply.{Reply, ofBegun, ofGot, ofDone, ofListed}
 use Rattle.answer.specs.Laws.{begun-only, got-only, done-only, listed-only}

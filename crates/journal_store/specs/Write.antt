@@ -1,19 +1,19 @@
 -- One contract for the calls that write a record: begin, update, abort and commit. Assumes nothing.
-use mathlib.Core.Path.{_≡_, refl, sym, ap, _∙_}
+use mathlib.Core.Path.{_≡_, sym, ap, _∙_}
 use mathlib.Core.Bool.{Bool, true, false, cond}
 use mathlib.Core.List.{List}
 use Prim.Native.Nat.{ℕ, _+_, _*_, _≤_, _/_}
 use native.Mathlib.Nat.{min-le-right, min-le-left}
 use native.Mathlib.Omega.{arith}
-use lib.Dec.{eqb, leb}
+use lib.Dec.{eqb}
 use lib.ListN.{length}
-use borrow.Author.Tests.{eqb-true, eqb-false, leb-true}
+use borrow.Author.Tests.{eqb-true}
 use Rattle.rules.specs.declared.Record.{Record}
 use Rattle.rules.specs.Bools.{split}
 use Rattle.rules.specs.Kinds.{recordBytes}
 use Rattle.rules.specs.Passed.{fitting}
-use Rattle.rules.specs.Calls.{Store, Call, refusal, need, withRoom, answer, recordOf, gives}
-use Rattle.record.specs.Bytes.{newest, appended}
+use Rattle.rules.specs.Calls.{Store, Call, refusal, need, answer, recordOf, gives}
+use Rattle.record.specs.Bytes.{appended}
 use Rattle.record.specs.Laws.{length-newest}
 use Rattle.answer.specs.declared.Refusal.the-variants.{BadShape}
 use Rattle.answer.specs.Reply.{Reply, refused, told, after}

@@ -19,7 +19,7 @@ use Rattle.rules.specs.Effects.{orZero}
 use Rattle.rules.specs.Times.{last, above}
 use Rattle.rules.specs.Lists.{rowKeys, listAt}
 use Rattle.rules.specs.Columns.{rowValues, firstRows, front-rows}
-use Rattle.rules.specs.Calls.{listAnswer, lastOf}
+use Rattle.rules.specs.Calls.{listAnswer, lastOf, listOf}
 use Rattle.rules.specs.Recovery.{walk, done, survivors}
 use Rattle.record.specs.Bytes.{Bytes, newest}
 use Rattle.record.specs.Laws.{length-newest}
@@ -34,7 +34,7 @@ use Rattle.compact.specs.Compact.{compacted}
 use Rattle.compact.specs.Laws.{length-only}
 use Rattle.journal_store.specs.declared.Head.{Head}
 use Rattle.journal_store.specs.Shape.{emptyHead, meaning}
-use Rattle.journal_store.specs.List.{listOf, isListShaped, listNumber, ListedBy, list-rows}
+use Rattle.journal_store.specs.List.{isListShaped, listNumber, ListedBy, list-rows}
 use Rattle.journal_store.specs.Recover.{isRecoverable, surviving, walkedReply, recoverReply, recoveredHead, Recovered, recoverable}
 use Rattle.journal_store.specs.Tie.{recover-meaning}
 use Rattle.report.specs.Text.{timeIs, keysIs, line, rowLines, listText, refusedText, isLent, walkedText, reportText, walkedCells, reportCells}

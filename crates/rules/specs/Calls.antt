@@ -10,14 +10,14 @@ use Rattle.rules.specs.declared.Value.{Value}
 use Rattle.rules.specs.declared.Value.the-variants.{Absent, Present}
 use Rattle.rules.specs.declared.Effect.{Effect}
 use Rattle.rules.specs.declared.Effect.the-variants.{Assign, Add}
+use Rattle.rules.specs.Limits.{mostRunning, numbersEnd}
 use Rattle.rules.specs.Kinds.{begun, assigned, added, committed, aborted}
-use Rattle.rules.specs.Transactions.{runs, running}
+use Rattle.rules.specs.Transactions.{runs, snapshot, running, mayWrite}
 use Rattle.rules.specs.Times.{last, next}
 use Rattle.rules.specs.Values.{Row, valueAt, readIn}
 use Rattle.rules.specs.Lists.{listAt}
 use Rattle.rules.specs.Conflicts.{conflict}
 use Rattle.rules.specs.Checkpoints.{held, kept}
-use Rattle.rules.specs.Recovery.{mayWrite}
 
 -- what a journal store is taken to mean
 pub record Store : Type 0 where
@@ -30,11 +30,42 @@ pub record Store : Type 0 where
 abbrev pub empty : Store
 empty = record { low = 0; floor = 1; base = []; records = [] }
 
+-- What calls ask of a store, each in one place: last and the next number, rule 3.3
 abbrev pub lastOf : Store → ℕ
 lastOf s = last (s .low) (s .records)
 
 abbrev pub nextOf : Store → ℕ
 nextOf s = next (s .floor) (s .records)
+
+-- the running transactions, whether one runs, its snapshot, whether a time is above a running snapshot
+abbrev pub runningOf : Store → List ℕ
+runningOf s = running (s .records)
+
+abbrev pub runsIn : ℕ → Store → Bool
+runsIn n s = runs n (s .records)
+
+abbrev pub snapshotIn : ℕ → Store → ℕ
+snapshotIn n s = snapshot n (s .records)
+
+abbrev pub heldIn : ℕ → Store → Bool
+heldIn t s = held t (s .records)
+
+-- whether a transaction may write a key, and whether its commit conflicts
+abbrev pub mayWriteIn : ℕ → ℕ → Store → Bool
+mayWriteIn n k s = mayWrite n k (s .records)
+
+abbrev pub conflictIn : ℕ → Store → Bool
+conflictIn n s = conflict n (snapshotIn n s) (s .records)
+
+-- the value of k at t, the list at t, and what transaction n reads in k
+abbrev pub valueOf : ℕ → ℕ → Store → Value
+valueOf k t s = valueAt (s .base) (s .records) t k
+
+abbrev pub listOf : ℕ → Store → List Row
+listOf t s = listAt (s .base) (s .records) t
+
+abbrev pub readOf : ℕ → ℕ → Store → Value
+readOf n k s = readIn (s .base) (s .records) n (snapshotIn n s) k
 
 -- the record of an update
 abbrev pub updated : ℕ → ℕ → Effect → Record
@@ -68,15 +99,15 @@ timeRefusal t s others = cond (ltb t (s .low)) 4 (cond (ltb (lastOf s) t) 5 othe
 
 -- section 6 but for shape and room, in the order of its tests
 abbrev pub refusal : Call → Store → ℕ
-refusal (Begin t) s = timeRefusal t s (cond (leb 8 (length (running (s .records)))) 6 (cond (leb 4294967295 (nextOf s)) 7 0))
+refusal (Begin t) s = timeRefusal t s (cond (leb mostRunning (length (runningOf s))) 6 (cond (leb numbersEnd (nextOf s)) 7 0))
 refusal (Update n k e) s =
-    cond (not (runs n (s .records))) 2 (cond (eqb k 0) 3 (cond (not (mayWrite n k (s .records))) 8 0))
-refusal (Abort n) s = cond (not (runs n (s .records))) 2 0
+    cond (not (runsIn n s)) 2 (cond (eqb k 0) 3 (cond (not (mayWriteIn n k s)) 8 0))
+refusal (Abort n) s = cond (not (runsIn n s)) 2 0
 refusal (Commit n t) s =
-    cond (not (runs n (s .records))) 2 (cond (leb t (lastOf s)) 10 (cond (conflict n (s .records)) 11 0))
+    cond (not (runsIn n s)) 2 (cond (leb t (lastOf s)) 10 (cond (conflictIn n s) 11 0))
 
 abbrev pub readRefusal : ℕ → ℕ → Store → ℕ
-readRefusal n k s = cond (not (runs n (s .records))) 2 (cond (eqb k 0) 3 0)
+readRefusal n k s = cond (not (runsIn n s)) 2 (cond (eqb k 0) 3 0)
 
 abbrev pub lookupRefusal : ℕ → ℕ → Store → ℕ
 lookupRefusal k t s = cond (eqb k 0) 3 (timeRefusal t s 0)
@@ -85,12 +116,12 @@ abbrev pub listRefusal : ℕ → Store → ℕ
 listRefusal t s = timeRefusal t s 0
 
 abbrev pub checkpointRefusal : ℕ → Store → ℕ
-checkpointRefusal t s = timeRefusal t s (cond (held t (s .records)) 9 0)
+checkpointRefusal t s = timeRefusal t s (cond (heldIn t s) 9 0)
 
 -- rule 3.11: how many free records a call needs
 abbrev pub need : Call → Store → ℕ
-need (Begin t) s = 2 + length (running (s .records))
-need (Update n k e) s = 1 + length (running (s .records))
+need (Begin t) s = 2 + length (runningOf s)
+need (Update n k e) s = 1 + length (runningOf s)
 need (Abort n) s = 1
 need (Commit n t) s = 1
 
@@ -104,10 +135,10 @@ answer room c s = withRoom (refusal c s) (length (s .records) + need c s) room
 
 -- the numbers that list and checkpoint get where so many rows are lent
 abbrev pub listAnswer : ℕ → ℕ → Store → ℕ
-listAnswer room t s = withRoom (listRefusal t s) (length (listAt (s .base) (s .records) t)) room
+listAnswer room t s = withRoom (listRefusal t s) (length (listOf t s)) room
 
 abbrev pub checkpointAnswer : ℕ → ℕ → Store → ℕ
-checkpointAnswer room t s = withRoom (checkpointRefusal t s) (length (listAt (s .base) (s .records) t)) room
+checkpointAnswer room t s = withRoom (checkpointRefusal t s) (length (listOf t s)) room
 
 -- one record more
 abbrev pub push : Record → Store → Store
@@ -115,4 +146,4 @@ push r s = record { low = s .low; floor = s .floor; base = s .base; records = r 
 
 -- rule 3.9: base becomes the list at T, low T, floor the next number
 abbrev pub checkpointed : ℕ → Store → Store
-checkpointed T s = record { low = T; floor = nextOf s; base = listAt (s .base) (s .records) T; records = kept T (s .records) }
+checkpointed T s = record { low = T; floor = nextOf s; base = listOf T s; records = kept T (s .records) }

@@ -5,7 +5,7 @@ use Prim.Native.Nat.{ℕ}
 use lib.Dec.{ltb}
 use Rattle.rules.specs.declared.Record.{Record}
 use Rattle.rules.specs.Kinds.{isUpdate, isCommit}
-use Rattle.rules.specs.Transactions.{any, of, snapshot, wrote}
+use Rattle.rules.specs.Transactions.{any, of, wrote}
 
 -- a commit record with a time later than s, of a transaction that wrote k anywhere in the whole journal
 abbrev pub wroteAfter : List Record → ℕ → ℕ → Record → Bool
@@ -19,6 +19,6 @@ touched whole s k rs = any (wroteAfter whole s k) rs
 abbrev pub clashes : List Record → ℕ → Record → Bool
 clashes rs s r = isUpdate r && touched rs s (r .key) rs
 
--- a commit of transaction n conflicts
-abbrev pub conflict : ℕ → List Record → Bool
-conflict n rs = any (clashes rs (snapshot n rs)) (of n rs)
+-- a commit of transaction n with snapshot s conflicts
+abbrev pub conflict : ℕ → ℕ → List Record → Bool
+conflict n s rs = any (clashes rs s) (of n rs)

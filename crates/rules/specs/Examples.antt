@@ -2,11 +2,9 @@
 use mathlib.Core.Path.{_≡_, refl}
 use mathlib.Core.Bool.{true, false}
 use mathlib.Core.List.{List, [], _∷_}
-use Prim.Native.Nat.{ℕ}
 use Rattle.rules.specs.declared.Record.{Record}
-use Rattle.rules.specs.declared.Value.{Value}
 use Rattle.rules.specs.declared.Value.the-variants.{Absent, Present}
-use Rattle.rules.specs.declared.Effect.the-variants.{Assign, Add}
+use Rattle.rules.specs.declared.Effect.the-variants.{Add}
 use Rattle.rules.specs.Kinds.{begun, assigned, added, committed, aborted}
 use Rattle.rules.specs.Effects.{applied}
 use Rattle.rules.specs.Transactions.{runs, snapshot, wrote, of, keysWritten, running}
@@ -95,15 +93,15 @@ seven-listed : listAt [] seven 3 ≡ record { key = 5; value = 12 } ∷ record {
 seven-listed = refl
 
 -- rule 3.5
-three-reads : readIn [] seven 3 9 ≡ Present 99
+three-reads : readIn [] seven 3 (snapshot 3 seven) 9 ≡ Present 99
 three-reads = refl
 
 -- rule 3.6: two writers of key 5 from the same snapshot
 abbrev both : List Record
 both = committed 1 1 ∷ added 2 5 1 ∷ begun 2 0 ∷ added 1 5 1 ∷ begun 1 0 ∷ []
 
-second-conflicts : conflict 2 both ≡ true
+second-conflicts : conflict 2 (snapshot 2 both) both ≡ true
 second-conflicts = refl
 
-first-clear : conflict 1 (added 2 5 1 ∷ begun 2 0 ∷ added 1 5 1 ∷ begun 1 0 ∷ []) ≡ false
+first-clear : conflict 1 0 (added 2 5 1 ∷ begun 2 0 ∷ added 1 5 1 ∷ begun 1 0 ∷ []) ≡ false
 first-clear = refl

@@ -2,14 +2,15 @@
 -- and what recovery keeps. Assumes nothing.
 use mathlib.Core.Bool.{Bool, true, cond, not, _&&_, _||_}
 use mathlib.Core.List.{List, [], _∷_}
-use Prim.Native.Nat.{ℕ}
+use Prim.Native.Nat.{ℕ, _-_}
 use lib.Dec.{eqb, leb, ltb}
 use lib.ListN.{length}
 use Rattle.rules.specs.declared.Record.{Record}
 use Rattle.rules.specs.declared.Walked.{Walked}
 use Rattle.rules.specs.declared.Walked.the-variants.{Whole, BadAt}
+use Rattle.rules.specs.Limits.{mostRunning, numbersEnd}
 use Rattle.rules.specs.Kinds.{isBegin, isUpdate, isCommit}
-use Rattle.rules.specs.Transactions.{any, of, wrote, keysWritten, runs, running}
+use Rattle.rules.specs.Transactions.{any, of, runs, snapshot, running, mayWrite}
 use Rattle.rules.specs.Times.{last, above}
 use Rattle.rules.specs.Conflicts.{conflict}
 
@@ -24,24 +25,20 @@ formed r =
 -- a begin's number exceeds those of earlier begins and lies in range; any other record's transaction runs
 abbrev pub numbered : List Record → Record → Bool
 numbered older r =
-    cond (isBegin r) (leb (above 1 older) (r .transaction) && leb (r .transaction) 4294967294) (runs (r .transaction) older)
+    cond (isBegin r) (leb (above 1 older) (r .transaction) && leb (r .transaction) (numbersEnd - 1)) (runs (r .transaction) older)
 
 -- a snapshot from low to last, a commit later than last
 abbrev pub timely : ℕ → List Record → Record → Bool
 timely low older r =
     cond (isBegin r) (leb low (r .time) && leb (r .time) (last low older)) (cond (isCommit r) (ltb (last low older) (r .time)) true)
 
--- transaction n may write k: it has written it, or fewer than 32 keys
-abbrev pub mayWrite : ℕ → ℕ → List Record → Bool
-mayWrite n k rs = wrote k (of n rs) || ltb (length (keysWritten (of n rs))) 32
-
 -- at most 8 run, at most 32 keys each
 abbrev pub limited : List Record → Record → Bool
-limited older r = cond (isBegin r) (ltb (length (running older)) 8) (cond (isUpdate r) (mayWrite (r .transaction) (r .key) older) true)
+limited older r = cond (isBegin r) (ltb (length (running older)) mostRunning) (cond (isUpdate r) (mayWrite (r .transaction) (r .key) older) true)
 
 -- a commit does not conflict
 abbrev pub clear : List Record → Record → Bool
-clear older r = cond (isCommit r) (not (conflict (r .transaction) older)) true
+clear older r = cond (isCommit r) (not (conflict (r .transaction) (snapshot (r .transaction) older) older)) true
 
 -- an accepted call would write r behind older
 abbrev pub judge : ℕ → List Record → Record → Bool

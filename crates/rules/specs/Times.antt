@@ -2,6 +2,7 @@
 use mathlib.Core.Bool.{cond}
 use mathlib.Core.List.{List, [], _∷_}
 use Prim.Native.Nat.{ℕ, suc, max, min}
+use Rattle.rules.specs.Limits.{numbersEnd}
 use Rattle.rules.specs.declared.Record.{Record}
 use Rattle.rules.specs.Kinds.{isBegin, isCommit}
 
@@ -23,6 +24,6 @@ abbrev pub above : ℕ → List Record → ℕ
 above floor [] = floor
 above floor (r ∷ rs) = aboveStep r (above floor rs)
 
--- the same, but never above 4,294,967,295
+-- the same, but never above the end of the numbers
 abbrev pub next : ℕ → List Record → ℕ
-next floor rs = min (above floor rs) 4294967295
+next floor rs = min (above floor rs) numbersEnd

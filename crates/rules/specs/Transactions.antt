@@ -3,9 +3,11 @@
 use mathlib.Core.Bool.{Bool, false, cond, not, _&&_, _||_}
 use mathlib.Core.List.{List, [], _∷_}
 use Prim.Native.Nat.{ℕ}
-use lib.Dec.{eqb}
+use lib.Dec.{eqb, ltb}
+use lib.ListN.{length}
 use Rattle.rules.specs.declared.Record.{Record}
 use Rattle.rules.specs.Kinds.{isBegin, isUpdate, isEnd}
+use Rattle.rules.specs.Limits.{mostKeys}
 use Rattle.rules.specs.Effects.{writes}
 
 -- some record passes the test
@@ -43,6 +45,10 @@ wrote k own = any (writes k) own
 abbrev pub keysWritten : List Record → List ℕ
 keysWritten [] = []
 keysWritten (r ∷ own) = cond (isUpdate r && not (wrote (r .key) own)) (r .key ∷ keysWritten own) (keysWritten own)
+
+-- transaction n may write k: it has written it, or fewer keys than may be
+abbrev pub mayWrite : ℕ → ℕ → List Record → Bool
+mayWrite n k rs = wrote k (of n rs) || ltb (length (keysWritten (of n rs))) mostKeys
 
 -- r is the first begin of a transaction that has no end anywhere in the whole journal
 abbrev pub opens : List Record → Record → List Record → Bool

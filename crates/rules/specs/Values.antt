@@ -8,7 +8,7 @@ use Rattle.rules.specs.declared.Value.{Value}
 use Rattle.rules.specs.declared.Value.the-variants.{Absent, Present}
 use Rattle.rules.specs.Kinds.{isCommit}
 use Rattle.rules.specs.Effects.{effects}
-use Rattle.rules.specs.Transactions.{of, snapshot}
+use Rattle.rules.specs.Transactions.{of}
 
 -- a row of a base or of a list
 pub record Row : Type 0 where
@@ -33,6 +33,6 @@ value start k t (r ∷ older) = settle k t r older (value start k t older)
 abbrev pub valueAt : List Row → List Record → ℕ → ℕ → Value
 valueAt base rs t k = value (rowValue base k) k t rs
 
--- a read of k in transaction n: the value at its snapshot, then its own effects on k in order
-abbrev pub readIn : List Row → List Record → ℕ → ℕ → Value
-readIn base rs n k = effects k (of n rs) (valueAt base rs (snapshot n rs) k)
+-- a read of k in transaction n with snapshot s: the value at s, then its own effects on k in order
+abbrev pub readIn : List Row → List Record → ℕ → ℕ → ℕ → Value
+readIn base rs n s k = effects k (of n rs) (valueAt base rs s k)

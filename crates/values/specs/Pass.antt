@@ -14,7 +14,7 @@ use Rattle.rules.specs.declared.Effect.the-variants.{Assign, Add}
 use Rattle.rules.specs.Kinds.{recordBytes}
 use Rattle.rules.specs.Effects.{applied, effects}
 use Rattle.rules.specs.Transactions.{of, wrote}
-use Rattle.rules.specs.Values.{Row, value, valueAt}
+use Rattle.rules.specs.Values.{value}
 use Rattle.rules.specs.Columns.{Rows}
 use Rattle.record.specs.Bytes.{newest}
 use Rattle.column.specs.declared.Found.{Found}
@@ -74,10 +74,6 @@ pub record Settles (start : Value) (k t : ℕ) (rs : List Record) (transactions 
 -- a read of k in transaction n from a snapshot, where the value of k's base row is start
 abbrev pub readOn : Value → List Record → ℕ → ℕ → ℕ → Value
 readOn start rs n snapshot k = effects k (of n rs) (value start k snapshot rs)
-
--- a read of k in transaction n from a snapshot: the value at it, then the transaction's own effects on k in order
-abbrev pub readFrom : List Row → List Record → ℕ → ℕ → ℕ → Value
-readFrom base rs n snapshot k = effects k (of n rs) (valueAt base rs snapshot k)
 
 -- the value of the row that was found, or absent
 abbrev pub foundValue : List ℕ → Found → Value

@@ -13,11 +13,11 @@ use Rattle.rules.specs.declared.Value.{Value}
 use Rattle.rules.specs.Bools.{split, or-none-left, or-none-right}
 use Rattle.rules.specs.Kinds.{isCommit}
 use Rattle.rules.specs.Effects.{writes, effects}
-use Rattle.rules.specs.Transactions.{of, wrote, snapshot}
-use Rattle.rules.specs.Values.{Row, rowValue, value, readIn}
+use Rattle.rules.specs.Transactions.{of, wrote}
+use Rattle.rules.specs.Values.{rowValue, value}
 use Rattle.rules.specs.Columns.{rowsOf}
 use Rattle.column.specs.Column.{firstFrom, firstRow}
-use Rattle.values.specs.Pass.{keptStep, keptEffects, readFrom, foundValue}
+use Rattle.values.specs.Pass.{keptStep, keptEffects, foundValue}
 
 module _ (transactions kinds amounts : List ℕ) (at a b d n : ℕ) (old : Value) where
   -- an update kept behind the others changes nothing of what they do
@@ -68,10 +68,6 @@ value-unwritten start k t (r ∷ rs) h =
     split (isCommit r && leb (r .time) t)
     (λ e. rw (e, effects-unwritten k (r .transaction) rs (value start k t rs) older) (value-unwritten start k t rs older))
     (λ e. rw e (value-unwritten start k t rs older))
-
--- read from its snapshot, a transaction's value is that of rule 3.5
-pub read-snapshot : (base : List Row) (rs : List Record) (n k : ℕ) → readFrom base rs n (snapshot n rs) k ≡ readIn base rs n k
-read-snapshot base rs n k = refl
 
 -- rows numbered from i have the value of the first row that has the key
 found-from : (keys values : List ℕ) (k i : ℕ) → i + length keys ≤ length values

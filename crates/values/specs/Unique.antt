@@ -3,10 +3,9 @@ use mathlib.Core.Path.{_≡_, sym, _∙_}
 use mathlib.Core.List.{List}
 use Prim.Native.Nat.{ℕ}
 use Rattle.rules.specs.declared.Value.{Value}
-use Rattle.rules.specs.Values.{rowValue, valueAt, value}
+use Rattle.rules.specs.Values.{rowValue, valueAt, value, readIn}
 use Rattle.rules.specs.Columns.{firstRows}
 use Rattle.record.specs.Bytes.{newest}
-use Rattle.values.specs.Pass.{readFrom}
 
 module _ (journal : List ℕ) (used : ℕ) where
   pub value-unique : (start : Value) (k t : ℕ) {v w : Value} → v ≡ value start k t (newest used journal) → w ≡ value start k t (newest used journal) → v ≡ w
@@ -21,6 +20,6 @@ module _ (keys values : List ℕ) (rows : ℕ) where
         → w ≡ valueAt (firstRows rows keys values) (newest used journal) t k → v ≡ w
     value-at-unique k t p q = p ∙ sym q
 
-    pub read-in-unique : (n snapshot k : ℕ) {v w : Value} → v ≡ readFrom (firstRows rows keys values) (newest used journal) n snapshot k
-        → w ≡ readFrom (firstRows rows keys values) (newest used journal) n snapshot k → v ≡ w
+    pub read-in-unique : (n snapshot k : ℕ) {v w : Value} → v ≡ readIn (firstRows rows keys values) (newest used journal) n snapshot k
+        → w ≡ readIn (firstRows rows keys values) (newest used journal) n snapshot k → v ≡ w
     read-in-unique n snapshot k p q = p ∙ sym q

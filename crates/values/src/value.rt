@@ -5,10 +5,10 @@ ghost use Prim.Native.Nat.{_*_, _≤_};
 ghost use lib.ListN.{length};
 ghost use Rattle.rules.specs.Kinds.{recordBytes};
 ghost use Rattle.rules.specs.Effects.{writes as writesTo};
-ghost use Rattle.rules.specs.Values.{rowValue, valueAt, value as valueIn};
+ghost use Rattle.rules.specs.Values.{rowValue, valueAt, value as valueIn, readIn};
 ghost use Rattle.rules.specs.Columns.{firstRows, Rows};
 ghost use Rattle.record.specs.Bytes.{newest};
-ghost use Rattle.values.specs.Pass.{Records, Lent, Kept, Unwritten, keptStep, keptEffects, Settles, readOn, readFrom};
+ghost use Rattle.values.specs.Pass.{Records, Lent, Kept, Unwritten, keptStep, keptEffects, Settles, readOn};
 use column::Found;
 use journal::Journal;
 use rules::Effect;
@@ -256,7 +256,7 @@ pub fn read_in(
     k: u32,
 ) -> Value
     requires { ⌜ Lent (now keys) (now values) rows (now journal) used ⌝ }
-    ensures { λ v. ⌜ v ≡ readFrom (firstRows rows (now (keys .entry)) (now (values .entry))) (newest used (now (journal .entry))) n snapshot k ⌝ }
+    ensures { λ v. ⌜ v ≡ readIn (firstRows rows (now (keys .entry)) (now (values .entry))) (newest used (now (journal .entry))) n snapshot k ⌝ }
 {
     let start = base_value(keys, values, rows, k);
     read(journal, used, start, n, snapshot, k)

@@ -11,7 +11,7 @@ use lib.ListN.{length}
 use Rattle.rules.specs.declared.Value.the-variants.{Absent}
 use Rattle.rules.specs.Kinds.{recordBytes}
 use Rattle.rules.specs.Checkpoints.{kept as keptAt}
-use Rattle.rules.specs.Calls.{nextOf, checkpointRefusal}
+use Rattle.rules.specs.Calls.{nextOf, checkpointRefusal, listOf}
 use Rattle.answer.specs.declared.Done.{Done}
 use Rattle.answer.specs.declared.Refusal.the-variants.{NoRoom}
 use Rattle.answer.specs.Reply.{Reply, ofDone, refused, accepted, told}
@@ -20,7 +20,6 @@ use Rattle.values.specs.Pass.{Lent}
 use Rattle.journal_store.specs.declared.Head.{Head}
 use Rattle.journal_store.specs.declared.Outcome.{Outcome}
 use Rattle.journal_store.specs.Shape.{isShaped, rowRoom, meaning, Shaped, shape}
-use Rattle.journal_store.specs.List.{listOf}
 use Rattle.journal_store.specs.Checkpoint.{Checkpointed, Settled, checkpoint-bad, checkpoint-refused, checkpoint-full, checkpoint-written}
 use borrow.Author.Needs.{needs}
 use Rattle.journal_checkpoint.proofs.checkpoint.Statement.{statement}

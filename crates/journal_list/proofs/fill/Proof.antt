@@ -10,7 +10,7 @@ use lib.ListN.{length}
 use Rattle.rules.specs.declared.Value.the-variants.{Present}
 use Rattle.rules.specs.Values.{Row}
 use Rattle.rules.specs.Columns.{Rows, Filled}
-use Rattle.rules.specs.Calls.{lastOf}
+use Rattle.rules.specs.Calls.{lastOf, listOf}
 use Rattle.answer.specs.declared.Refusal.the-variants.{NoRoom}
 use Rattle.answer.specs.Reply.{refused, accepted}
 use Rattle.values.specs.Pass.{Records}
@@ -18,7 +18,7 @@ use Rattle.table.specs.Laws.{next-within, next-filled, next-copied}
 use Rattle.listing.specs.Settled.{Cells}
 use Rattle.journal_store.specs.declared.Head.{Head}
 use Rattle.journal_store.specs.Shape.{meaning, Shaped}
-use Rattle.journal_store.specs.List.{isListShaped, listOf, ListedBy, list-shape, list-paired, list-room, list-rows, list-filled, list-refused}
+use Rattle.journal_store.specs.List.{isListShaped, ListedBy, list-shape, list-paired, list-room, list-rows, list-filled, list-refused}
 use borrow.Author.Needs.{needs}
 use Rattle.journal_list.proofs.fill.Statement.{statement}
 use Rattle.journal_list.proofs.fill.Tie as tie

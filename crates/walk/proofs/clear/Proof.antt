@@ -6,8 +6,8 @@ use Prim.Native.Nat.{ℕ}
 use borrow.Author.Tests.{eq-eqb, ne-eqb}
 use Rattle.rules.specs.declared.Record.{Record}
 use Rattle.rules.specs.Kinds.{isCommit}
-use Rattle.rules.specs.Transactions.{any, of, runs, snapshot}
-use Rattle.rules.specs.Conflicts.{clashes}
+use Rattle.rules.specs.Transactions.{runs, snapshot}
+use Rattle.rules.specs.Conflicts.{conflict}
 use Rattle.rules.specs.Recovery.{clear}
 use Rattle.record.specs.Bytes.{newest}
 use Rattle.walk.specs.declared.State.{State}
@@ -19,12 +19,12 @@ use Rattle.walk.proofs.clear.Statement.{statement}
 use Rattle.walk.proofs.clear.Tie as tie
 
 commits : (rs : List Record) (r : Record) (s : State) (v : ℕ) (b : Bool) → Open rs s → (isCommit r ≡ true → runs (r .transaction) rs ≡ true)
-    → r .kind ≡ 4 → SnapshotOf s (r .transaction) v → b ≡ any (clashes rs v) (of (r .transaction) rs) → not b ≡ clear rs r
+    → r .kind ≡ 4 → SnapshotOf s (r .transaction) v → b ≡ conflict (r .transaction) v rs → not b ≡ clear rs r
 commits rs r s v b o h k q e =
     let t : v ≡ snapshot (r .transaction) rs =
     q (λ m. snapshot m rs) (o .held) (rows-run rs s o (r .transaction) ∙ h (eq-eqb (r .kind) 4 k))
     in
-    rw k (ap not (e ∙ ap (λ (x : ℕ). any (clashes rs x) (of (r .transaction) rs)) t))
+    rw k (ap not (e ∙ ap (λ (x : ℕ). conflict (r .transaction) x rs) t))
 
 returns : tie.Need-returns
 returns c = simp (ne-eqb _ _ (c .if1 .taken))

@@ -7,7 +7,8 @@ use lib.Dec.{ltb}
 use borrow.Author.Tests.{ne-eqb}
 use Rattle.rules.specs.declared.Record.{Record}
 use Rattle.rules.specs.Kinds.{isUpdate}
-use Rattle.rules.specs.Recovery.{limited, mayWrite}
+use Rattle.rules.specs.Recovery.{limited}
+use Rattle.rules.specs.Transactions.{mayWrite}
 use Rattle.record.specs.Bytes.{newest}
 use Rattle.walk.specs.declared.State.{State}
 use Rattle.walk.specs.Walk.{Open}

@@ -1,7 +1,7 @@
 -- `journal::conflicts::any_met` meets its contract. The loop's invariant: whether some record passed is met. Assumes nothing.
 use mathlib.Core.Path.{_≡_}
 use mathlib.Core.Logic.{⊎-elim}
-use Prim.Native.Nat.{_≤_, _-_, _+_}
+use Prim.Native.Nat.{_≤_, _-_}
 use lib.ListN.{take}
 use Rattle.rules.specs.Transactions.{any}
 use Rattle.record.specs.Bytes.{newest}

@@ -6,10 +6,10 @@ use Prim.Native.Nat.{ℕ}
 use lib.ListN.{take}
 use Rattle.rules.specs.declared.Record.{Record}
 use Rattle.rules.specs.Transactions.{any, of, keysWritten}
-use Rattle.rules.specs.Conflicts.{clashes}
+use Rattle.rules.specs.Conflicts.{conflict}
 use Rattle.record.specs.Bytes.{newest}
 use Rattle.journal.specs.Gathered.{metIn, lates, Gathered, keys-held, late-held}
-use Rattle.journal.specs.Meets.{meets, meets-clashes}
+use Rattle.journal.specs.Meets.{meets, meets-conflict}
 use borrow.Author.Needs.{needs}
 use denote.Ref.{now}
 use Rattle.journal.proofs.conflicts.conflict_since.Statement.{statement}
@@ -22,12 +22,12 @@ any-same p q h (r ∷ rs) = rw (h r, any-same p q h rs)
 
 told : (n s used written late : ℕ) (rs : List Record) (entry keys other numbers : List ℕ) (b : Bool)
     → Gathered (keysWritten (of n rs)) used written entry keys → Gathered (lates s rs) used late other numbers
-    → b ≡ any (metIn (take written keys) (take late numbers)) rs → b ≡ any (clashes rs s) (of n rs)
+    → b ≡ any (metIn (take written keys) (take late numbers)) rs → b ≡ conflict n s rs
 told n s used written late rs entry keys other numbers b k l h =
     h
     ∙ any-same (metIn (take written keys) (take late numbers)) (meets rs (of n rs) s)
     (λ r. rw (keys-held (of n rs) used written entry keys k (r .key), late-held rs used late other numbers s l (r .transaction))) rs
-    ∙ meets-clashes n s rs
+    ∙ meets-conflict n s rs
 
 slice-aggregate-keys-written : tie.Need-slice-aggregate-keys-written
 slice-aggregate-keys-written c = search needs

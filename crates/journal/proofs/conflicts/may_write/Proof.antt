@@ -9,8 +9,7 @@ use borrow.Author.Tests.{lt-ltb, le-ltb}
 use Rattle.rules.specs.declared.Record.{Record}
 use Rattle.rules.specs.Bools.{or-right, or-false}
 use Rattle.rules.specs.Lists.{among}
-use Rattle.rules.specs.Transactions.{of, wrote, keysWritten}
-use Rattle.rules.specs.Recovery.{mayWrite}
+use Rattle.rules.specs.Transactions.{of, wrote, keysWritten, mayWrite}
 use Rattle.record.specs.Bytes.{newest}
 use Rattle.journal.specs.Gathered.{Gathered, keys-held}
 use borrow.Author.Needs.{needs}

@@ -1,7 +1,7 @@
 -- `journal::times::is_passed` meets its contract. The loop's invariant: whether some record passed is a later commit. Assumes nothing.
 use mathlib.Core.Path.{_≡_}
 use mathlib.Core.Logic.{⊎-elim}
-use Prim.Native.Nat.{_≤_, _-_, _+_}
+use Prim.Native.Nat.{_≤_, _-_}
 use Rattle.rules.specs.Transactions.{any}
 use Rattle.rules.specs.Checkpoints.{late}
 use Rattle.record.specs.Bytes.{newest}

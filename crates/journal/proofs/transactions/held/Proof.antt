@@ -1,7 +1,7 @@
 -- `journal::transactions::held` meets its contract. The loop's invariant: whether some record passed holds the time. Assumes nothing.
 use mathlib.Core.Path.{_≡_}
 use mathlib.Core.Logic.{⊎-elim}
-use Prim.Native.Nat.{_≤_, _-_, _+_}
+use Prim.Native.Nat.{_≤_, _-_}
 use Rattle.rules.specs.Transactions.{any}
 use Rattle.rules.specs.Checkpoints.{heldBy}
 use Rattle.record.specs.Bytes.{newest}

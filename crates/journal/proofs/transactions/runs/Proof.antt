@@ -1,5 +1,5 @@
 -- `journal::transactions::runs` meets its contract: it has begun and not ended. Assumes nothing.
-use mathlib.Core.Path.{_≡_, ap, _∙_}
+use mathlib.Core.Path.{ap, _∙_}
 use mathlib.Core.Bool.{not, _&&_}
 use borrow.Author.Needs.{needs}
 use Rattle.journal.specs.declared.transactions.Trace.{Trace}

@@ -4,7 +4,7 @@ use mathlib.Core.Bool.{not, _&&_}
 use borrow.Author.Tests.{not-true, not-false}
 use lib.ListN.{length}
 use Rattle.rules.specs.Transactions.{any, of}
-use Rattle.rules.specs.Conflicts.{clashes}
+use Rattle.rules.specs.Conflicts.{conflict}
 use Rattle.record.specs.Bytes.{newest}
 use Rattle.record.specs.Laws.{length-newest}
 use Rattle.journal.specs.declared.transactions.Trace.{Trace}
@@ -67,7 +67,7 @@ returns-3 c =
     let rs = newest (a .h .journal .used) (now (a .journal)) in
     let ru = rn .runs .ensures ∙ ap (λ (x : Trace). x .begun && not (x .ended)) (fo .follow .ensures) in
     commit-conflict (roomOf (length (now (a .journal)))) (meaning (a .h) (now (a .keys)) (now (a .values)) (now (a .journal))) (a .n) _ ru (not-false _ (e1 .if1 .left)) (a .t) _ (la .last .ensures)
-    (e2 .if2 .left) _ (co .conflict .ensures ∙ ap (λ (x : Trace). any (clashes rs (x .snapshot)) (of (a .n) rs)) (fo .follow .ensures)) (c .if3 .taken)
+    (e2 .if2 .left) _ (co .conflict .ensures ∙ ap (λ (x : Trace). conflict (a .n) (x .snapshot) rs) (fo .follow .ensures)) (c .if3 .taken)
 
 room-requires : tie.Need-room-requires
 room-requires c κs = search needs
@@ -89,7 +89,7 @@ returns-4 c =
     let rs = newest (a .h .journal .used) (now (a .journal)) in
     let ru = rn .runs .ensures ∙ ap (λ (x : Trace). x .begun && not (x .ended)) (fo .follow .ensures) in
     commit-room (roomOf (length (now (a .journal)))) (meaning (a .h) (now (a .keys)) (now (a .values)) (now (a .journal))) (a .n) _ ru (not-false _ (e1 .if1 .left)) (a .t) _ (la .last .ensures)
-    (e2 .if2 .left) _ (co .conflict .ensures ∙ ap (λ (x : Trace). any (clashes rs (x .snapshot)) (of (a .n) rs)) (fo .follow .ensures)) (e3 .if3 .left) (a .h .journal .used) (length-newest (a .h .journal .used) (now (a .journal))) (rw (rm .room .ensures) at (c .if4 .taken))
+    (e2 .if2 .left) _ (co .conflict .ensures ∙ ap (λ (x : Trace). conflict (a .n) (x .snapshot) rs) (fo .follow .ensures)) (e3 .if3 .left) (a .h .journal .used) (length-newest (a .h .journal .used) (now (a .journal))) (rw (rm .room .ensures) at (c .if4 .taken))
 
 returns-5 : tie.Need-returns-5
 returns-5 c =
@@ -105,7 +105,7 @@ returns-5 c =
     let rs = newest (a .h .journal .used) (now (a .journal)) in
     let ru = rn .runs .ensures ∙ ap (λ (x : Trace). x .begun && not (x .ended)) (fo .follow .ensures) in
     commit-done (roomOf (length (now (a .journal)))) (meaning (a .h) (now (a .keys)) (now (a .values)) (now (a .journal))) (a .n) _ ru (not-false _ (e1 .if1 .left)) (a .t) _ (la .last .ensures)
-    (e2 .if2 .left) _ (co .conflict .ensures ∙ ap (λ (x : Trace). any (clashes rs (x .snapshot)) (of (a .n) rs)) (fo .follow .ensures)) (e3 .if3 .left) (a .h .journal .used) (length-newest (a .h .journal .used) (now (a .journal))) (rw (rm .room .ensures) at (c .if4 .left))
+    (e2 .if2 .left) _ (co .conflict .ensures ∙ ap (λ (x : Trace). conflict (a .n) (x .snapshot) rs) (fo .follow .ensures)) (e3 .if3 .left) (a .h .journal .used) (length-newest (a .h .journal .used) (now (a .journal))) (rw (rm .room .ensures) at (c .if4 .left))
 
 pub decide-spec : {M : Type 1} → statement M
 decide-spec =

@@ -4,11 +4,10 @@ use mathlib.Core.Bool.{not, _&&_}
 use Prim.Native.Nat.{ℕ}
 use borrow.Author.Tests.{not-true, not-false}
 use Rattle.rules.specs.Transactions.{of}
-use Rattle.rules.specs.Values.{valueAt}
+use Rattle.rules.specs.Values.{readIn}
 use Rattle.rules.specs.Columns.{firstRows}
 use Rattle.record.specs.Bytes.{newest}
 use Rattle.journal.specs.declared.transactions.Trace.{Trace}
-use Rattle.values.specs.Pass.{readFrom}
 use Rattle.journal_store.specs.Shape.{meaning}
 use Rattle.journal_store.specs.Read.{read-unknown, read-key, read-value}
 use borrow.Author.Needs.{needs}
@@ -50,7 +49,7 @@ returns-3 c =
     let rs = newest (a .h .journal .used) (now (a .journal)) in
     read-value (a .n) (a .k) (meaning (a .h) (now (a .keys)) (now (a .values)) (now (a .journal))) _ (ru .runs .ensures ∙ ap (λ (t : Trace). t .begun && not (t .ended)) (fo .follow .ensures))
     (not-false _ (e2 .before .if1 .left)) (e2 .if2 .left) _
-    (c .read-in .ensures ∙ ap (λ (t : Trace). readFrom base rs (a .n) (t .snapshot) (a .k)) (fo .follow .ensures))
+    (c .read-in .ensures ∙ ap (λ (t : Trace). readIn base rs (a .n) (t .snapshot) (a .k)) (fo .follow .ensures))
 
 pub decide-spec : {M : Type 1} → statement M
 decide-spec =
