@@ -5,12 +5,16 @@ use Prim.Native.Nat.{ℕ, _<_, _≤_}
 use native.Mathlib.Omega.{arith}
 use lib.Dec.{eqb, leb, ltb}
 use lib.ListN.{length}
-use borrow.Author.Tests.{leb-false, ltb-false, not-false}
+use borrow.Author.Tests.{eqb-false, leb-true, leb-false, ltb-false, not-false}
 use Rattle.rules.specs.declared.Effect.{Effect}
 use Rattle.rules.specs.Calls.{Store, lastOf, nextOf, runningOf, runsIn, heldIn, mayWriteIn, conflictIn, Begin, Update, Abort, Commit, timeRefusal, refusal, checkpointRefusal}
+use Rattle.rules.specs.Bools.{split}
 use Rattle.rules.specs.Passed.{passed}
 use Rattle.history.specs.History.{Deed, Did, Checkpointed}
-use Rattle.history.specs.Judged.{pos}
+
+-- a number that is not 0
+pos : (n : ℕ) → eqb n 0 ≡ false → 1 ≤ n
+pos n e = split (leb 1 n) (λ l. leb-true 1 n l) (λ l. let z = leb-false 1 n l in absurd (eqb-false n 0 e (omega arith)))
 
 -- section 6 but for shape and room, for every deed
 abbrev pub refused : Deed → Store → ℕ

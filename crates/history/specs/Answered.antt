@@ -16,7 +16,7 @@ use Rattle.history.specs.History.{Runner, Deed, Did, numbers, history, a
 use Rattle.history.specs.Refusals.{lastIn}
 use Rattle.history.specs.Course.{Course, lose, recovered}
 use Rattle.history.specs.Listed.{history-lists}
-use Rattle.history.specs.RefusedAlike.{snapshot-low, begun-of}
+use Rattle.history.specs.GoodLaws.{begun-of, snapshot-within}
 use Rattle.history.specs.Recovered.{survivors-none}
 use Rattle.history.specs.Replayed.{whole}
 use Rattle.history.specs.Told.{value-told, last-told}
@@ -56,7 +56,7 @@ module _ (y : Course) (h : Tied y) where
       let b = whole (y .deeds) .records in
       let v : runs n b ≡ true = sym (now y h .run n) ∙ u in
       let o : of n (y .store .records) ≡ of n b = now y h .own n u in
-      let l : y .store .low ≤ snapshot n b = rw o at (snapshot-low (good-now y h) n (begun-of n (y .store .records) u)) in
+      let l : y .store .low ≤ snapshot n b = rw o at (snapshot-within (good-now y h) n (begun-of n (y .store .records) u) .0) in
       rw (o, now y h .values k (snapshot n b) i l) (read-told (h .lawful) n k v)
 
 -- aborts change no committed transaction, and not low

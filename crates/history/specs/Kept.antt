@@ -1,16 +1,15 @@
 -- Checkpoint and recovery keep whole transactions, and the commits after T: what the rules read in what is kept. Assumes nothing.
 use mathlib.Core.Path.{_≡_, refl, ap, sym, _∙_}
-use mathlib.Core.Bool.{Bool, true, false, not, _&&_}
+use mathlib.Core.Bool.{Bool, true, false, _&&_}
 use mathlib.Core.List.{List, [], _∷_}
 use Prim.Native.Nat.{ℕ, _≤_, max}
 use native.Mathlib.Omega.{arith}
 use native.Mathlib.Nat.{le-trans}
 use lib.Dec.{ltb}
-use borrow.Author.Tests.{eqb-true, ltb-true, ltb-false, le-leb, lt-leb, lt-ltb, le-ltb}
+use borrow.Author.Tests.{ltb-true, ltb-false, le-leb, lt-leb, lt-ltb, le-ltb}
 use Rattle.rules.specs.declared.Record.{Record}
 use Rattle.rules.specs.declared.Value.{Value}
-use Rattle.rules.specs.declared.Effect.the-variants.{Assign, Add}
-use Rattle.rules.specs.Kinds.{isBegin, isUpdate, isCommit, isEnd, committed}
+use Rattle.rules.specs.Kinds.{isBegin, isUpdate, isCommit}
 use Rattle.rules.specs.Transactions.{any, of, runs, firstBegin, snapshot, wrote, running, mayWrite}
 use Rattle.rules.specs.Times.{last}
 use Rattle.rules.specs.Values.{value}
@@ -18,7 +17,8 @@ use Rattle.rules.specs.Conflicts.{wroteAfter, touched, clashes, conflict}
 use Rattle.rules.specs.Checkpoints.{raise, sift}
 use Rattle.rules.specs.Bools.{split, and-left, and-right, and-both, or-left, or-right, implies-false, and-false}
 use Rattle.rules.specs.KeptLaws.{raised, of-kept, above-sift, kept-fewer, running-sift, raised-begin, raised-end, raised-wrote, raised-keys, raised-effects, raised-snapshot}
-use Rattle.history.specs.Good.{begin, update, commit, abort, Good, none, more}
+use Rattle.history.specs.Good.{Step, Good, none, more}
+use Rattle.history.specs.GoodLaws.{commit-begins, begun-of, last-more}
 
 -- the commits kept are those after T
 pub data Fitting (K : ℕ → Bool) (T : ℕ) : List Record → Type 0 where
@@ -47,16 +47,16 @@ touched-later whole s u k (c ∷ rs) l h =
 
 module _ (K : ℕ → Bool) (T : ℕ) where
   -- last becomes T where it was below
-  pub last-sift : {low : ℕ} {rs : List Record} → low ≤ T → Good low rs → Fitting K T rs → last T (sift K T rs) ≡ max T (last low rs)
-  last-sift l none fit-none = omega arith
-  last-sift l (more g (begin n s a b c d e)) (fit-more p f) = split (K n) (λ x. rw (x, last-sift l g f)) (λ x. rw (x, last-sift l g f))
-  last-sift l (more g (update n k (Assign v) a b c)) (fit-more p f) = split (K n) (λ x. rw (x, last-sift l g f)) (λ x. rw (x, last-sift l g f))
-  last-sift l (more g (update n k (Add v) a b c)) (fit-more p f) = split (K n) (λ x. rw (x, last-sift l g f)) (λ x. rw (x, last-sift l g f))
-  last-sift l (more g (commit n t a b c)) (fit-more p f) =
-      split (ltb T t)
-      (λ x. rw (p refl, x, last-sift l g f) (omega arith))
-      (λ x. let y = ltb-false T t x in rw (p refl, x, last-sift l g f) (omega arith))
-  last-sift l (more g (abort n a)) (fit-more p f) = split (K n) (λ x. rw (x, last-sift l g f)) (λ x. rw (x, last-sift l g f))
+  pub last-sift : (low : ℕ) {rs : List Record} → low ≤ T → Fitting K T rs → last T (sift K T rs) ≡ max T (last low rs)
+  last-sift low l fit-none = omega arith
+  last-sift low l (fit-more {r = r} p f) =
+      let i = last-sift low l f in
+      split (isCommit r)
+      (λ c.
+      split (ltb T (r .time))
+      (λ x. rw (p c, x, c, commit-begins r c, i) (omega arith))
+      (λ x. let y = ltb-false T (r .time) x in rw (p c, x, c, i) (omega arith)))
+      (λ c. split (K (r .transaction)) (λ x. rw (x, c, i)) (λ x. rw (x, c, i)))
 
   -- after T the same commits wrote the same keys
   pub touched-sift : (whole : List Record) (s k : ℕ) {rs : List Record} → T ≤ s → Fitting K T rs
@@ -66,7 +66,7 @@ module _ (K : ℕ → Bool) (T : ℕ) where
       let i = touched-sift whole s k l f in
       split (isCommit c)
       (λ x.
-      let y : isBegin c ≡ false = rw (eqb-true (c .kind) 4 x) in
+      let y : isBegin c ≡ false = commit-begins c x in
       split (ltb T (c .time))
       (λ z. rw (p x, z, x, y, of-kept T K (c .transaction) (p x ∙ z) whole, raised-wrote T k (of (c .transaction) whole), i))
       (λ z. let q = ltb-false T (c .time) z in rw (p x, z, le-ltb s (c .time) (omega arith), and-false, i)))
@@ -102,42 +102,49 @@ module _ (K : ℕ → Bool) (T : ℕ) where
   runs-kept : (n : ℕ) (rs : List Record) → K n ≡ true → runs n rs ≡ true → runs n (sift K T rs) ≡ true
   runs-kept n rs h e = rw (of-kept T K n h rs, raised-begin T (of n rs), raised-end T (of n rs)) e
 
+  -- what the walk found in a kept record it finds in what is kept
+  step-sift : {low : ℕ} {rs : List Record} {r : Record} → low ≤ T → Fitting K T (r ∷ rs) → K (r .transaction) ≡ true → Step low rs r
+      → Step T (sift K T rs) (raise T r)
+  step-sift {low} {rs} {r} l (fit-more p f) x s =
+      record {
+        form = split (isBegin r) (λ b. rw b (rw b at (s .form))) (λ b. rw b (rw b at (s .form)));
+        opens =
+            λ b.
+            let o = s .opens b in
+            record {
+              fresh = le-trans (above-sift T K 1 1 rs (omega arith)) (o .fresh);
+              ranged = o .ranged;
+              from = rw b (omega arith);
+              upto = rw (b, last-sift low l f) (omega (arith, o .upto));
+              few = rw (running-sift T K rs rs) (omega (arith, o .few, kept-fewer T K (running rs)));
+            };
+        goes-on = λ b. runs-kept (r .transaction) rs x (s .goes-on b);
+        writes = λ u. room-sift (r .transaction) (r .key) rs x (s .writes u);
+        settles =
+            λ c.
+            let b = commit-begins r c in
+            let y = ltb-true T (r .time) (sym (p c) ∙ x) in
+            record {
+              later = rw (b, last-sift low l f) (omega (arith, s .settles c .later));
+              clear = conflict-sift (r .transaction) rs f x (begun-of (r .transaction) rs (s .goes-on b)) (s .settles c .clear);
+            };
+      }
+
   -- what is kept is a good journal over T
   pub good-sift : {low : ℕ} {rs : List Record} → low ≤ T → Good low rs → Fitting K T rs → Good T (sift K T rs)
   good-sift l none fit-none = none
-  good-sift {low} l (more {older = rs} g (begin n s a b c d e)) (fit-more p f) =
+  good-sift l (more {r = r} g s) (fit-more p f) =
       let i = good-sift l g f in
-      split (K n)
-      (λ x. rw x (more i (begin n (max T s) (le-trans (above-sift T K 1 1 rs (omega arith)) a) b (omega arith)
-      (rw (last-sift l g f) (omega arith)) (rw (running-sift T K rs rs) (omega (arith, kept-fewer T K (running rs)))))))
-      (λ x. rw x i)
-  good-sift l (more {older = rs} g (update n k (Assign v) a b c)) (fit-more p f) =
-      let i = good-sift l g f in
-      split (K n) (λ x. rw x (more i (update n k (Assign v) (runs-kept n rs x a) b (room-sift n k rs x c)))) (λ x. rw x i)
-  good-sift l (more {older = rs} g (update n k (Add v) a b c)) (fit-more p f) =
-      let i = good-sift l g f in
-      split (K n) (λ x. rw x (more i (update n k (Add v) (runs-kept n rs x a) b (room-sift n k rs x c)))) (λ x. rw x i)
-  good-sift l (more {older = rs} g (commit n t a b c)) (fit-more p f) =
-      let i = good-sift l g f in
-      split (ltb T t)
-      (λ x.
-      let y = ltb-true T t x in
-      let z : K n ≡ true = p refl ∙ x in
-      rw z (more i (commit n t (runs-kept n rs z a) (rw (last-sift l g f) (omega arith))
-      (conflict-sift n rs f z (and-left (any isBegin (of n rs)) (not (any isEnd (of n rs))) a) c))))
-      (λ x. rw (p refl, x) i)
-  good-sift l (more {older = rs} g (abort n a)) (fit-more p f) =
-      let i = good-sift l g f in
-      split (K n) (λ x. rw x (more i (abort n (runs-kept n rs x a)))) (λ x. rw x i)
+      split (K (r .transaction)) (λ x. rw x (more i (step-sift l (fit-more p f) x s))) (λ x. rw x i)
 
   -- no commit is kept of those that stand at or before T
-  value-none : (v : Value) (k t : ℕ) {low : ℕ} {rs : List Record} → last low rs ≤ T → Good low rs → Fitting K T rs → value v k t (sift K T rs) ≡ v
-  value-none v k t l none fit-none = refl
-  value-none v k t l (more g (begin n s a b c d e)) (fit-more p f) = let i = value-none v k t l g f in split (K n) (λ x. rw x i) (λ x. rw x i)
-  value-none v k t l (more g (update n j (Assign u) a b c)) (fit-more p f) = let i = value-none v k t l g f in split (K n) (λ x. rw x i) (λ x. rw x i)
-  value-none v k t l (more g (update n j (Add u) a b c)) (fit-more p f) = let i = value-none v k t l g f in split (K n) (λ x. rw x i) (λ x. rw x i)
-  value-none v k t l (more g (commit n u a b c)) (fit-more p f) = rw (p refl, le-ltb T u (omega arith)) (value-none v k t (omega arith) g f)
-  value-none v k t l (more g (abort n a)) (fit-more p f) = let i = value-none v k t l g f in split (K n) (λ x. rw x i) (λ x. rw x i)
+  value-none : (v : Value) (k t low : ℕ) {rs : List Record} → last low rs ≤ T → Fitting K T rs → value v k t (sift K T rs) ≡ v
+  value-none v k t low l fit-none = refl
+  value-none v k t low l (fit-more {r = r} {rs = rs} p f) =
+      let i = value-none v k t low (omega (arith, last-more low r rs)) f in
+      split (isCommit r)
+      (λ c. let m : max (last low rs) (r .time) ≤ T = rw c at l in rw (p c, le-ltb T (r .time) (omega arith)) i)
+      (λ c. split (K (r .transaction)) (λ x. rw (x, c) i) (λ x. rw x i))
 
   -- from last on a value stands
   value-stands : (v : Value) (k t low : ℕ) (rs : List Record) → last low rs ≤ T → T ≤ t → value v k T rs ≡ value v k t rs
@@ -153,17 +160,18 @@ module _ (K : ℕ → Bool) (T : ℕ) where
   pub value-sift : (v w : Value) (k t : ℕ) {low : ℕ} {rs : List Record} → T ≤ t → Good low rs → Fitting K T rs → w ≡ value v k T rs
       → value w k t (sift K T rs) ≡ value v k t rs
   value-sift v w k t m none fit-none e = e
-  value-sift v w k t m (more g (begin n s a b c d x)) (fit-more p f) e = let i = value-sift v w k t m g f e in split (K n) (λ x. rw x i) (λ x. rw x i)
-  value-sift v w k t m (more g (update n j (Assign u) a b c)) (fit-more p f) e = let i = value-sift v w k t m g f e in split (K n) (λ x. rw x i) (λ x. rw x i)
-  value-sift v w k t m (more g (update n j (Add u) a b c)) (fit-more p f) e = let i = value-sift v w k t m g f e in split (K n) (λ x. rw x i) (λ x. rw x i)
-  value-sift v w k t {low} m (more {older = rs} g (commit n u a b c)) (fit-more p f) e =
-      split (ltb T u)
+  value-sift v w k t {low} m (more {r = r} {older = rs} g s) (fit-more p f) e =
+      split (isCommit r)
+      (λ c.
+      let n : ℕ = r .transaction in
+      split (ltb T (r .time))
       (λ x.
-      let y = ltb-true T u x in
-      let z : K n ≡ true = p refl ∙ x in
-      let e2 : w ≡ value v k T rs = rw (lt-leb u T (omega arith)) at e in
-      rw (z, of-kept T K n z rs, raised-effects T k (of n rs), value-sift v w k t m g f e2))
+      let y = ltb-true T (r .time) x in
+      let z : K n ≡ true = p c ∙ x in
+      let e2 : w ≡ value v k T rs = rw (c, lt-leb (r .time) T (omega arith)) at e in
+      rw (z, c, commit-begins r c, of-kept T K n z rs, raised-effects T k (of n rs), value-sift v w k t m g f e2))
       (λ x.
-      let y = ltb-false T u x in
-      rw (p refl, x, value-none w k t (omega arith) g f) (e ∙ value-stands v k t low (committed n u ∷ rs) (omega arith) m))
-  value-sift v w k t m (more g (abort n a)) (fit-more p f) e = let i = value-sift v w k t m g f e in split (K n) (λ x. rw x i) (λ x. rw x i)
+      let y = ltb-false T (r .time) x in
+      let z = s .settles c .later in
+      rw (p c, x, value-none w k t low (omega arith) f) (e ∙ value-stands v k t low (r ∷ rs) (rw c (omega arith)) m)))
+      (λ c. let i = value-sift v w k t m g f (rw c at e) in split (K (r .transaction)) (λ x. rw (x, c) i) (λ x. rw (x, c) i))

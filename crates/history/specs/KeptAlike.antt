@@ -5,32 +5,22 @@ use mathlib.Core.List.{List, [], _∷_}
 use Prim.Native.Nat.{ℕ, _<_, _≤_, max}
 use native.Mathlib.Omega.{arith}
 use lib.Dec.{eqb, ltb}
-use borrow.Author.Tests.{eqb-true, eq-eqb, ne-eqb, ltb-false, lt-ltb}
+use borrow.Author.Tests.{eqb-true, eq-eqb, ltb-false, lt-ltb}
 use Rattle.rules.specs.declared.Record.{Record}
 use Rattle.rules.specs.declared.Value.{Value}
-use Rattle.rules.specs.declared.Effect.the-variants.{Assign, Add}
-use Rattle.rules.specs.Kinds.{isBegin, isCommit, isEnd, begun, assigned, added, committed, aborted}
+use Rattle.rules.specs.Kinds.{isBegin, isCommit, isEnd}
 use Rattle.rules.specs.Transactions.{any, of, runs, snapshot}
 use Rattle.rules.specs.Times.{last, above}
 use Rattle.rules.specs.Values.{value}
-use Rattle.rules.specs.Checkpoints.{heldBy, held, late, stays, known, sift, kept}
+use Rattle.rules.specs.Checkpoints.{heldBy, held, late, stays, sift, kept}
 use Rattle.rules.specs.Recovery.{done}
 use Rattle.rules.specs.Bools.{split, and-left, or-left, or-none-left, or-none-right, not-both, and-false, or-false}
-use Rattle.rules.specs.Running.{not-ended, below}
 use Rattle.journal.specs.Past.{low-last}
-use Rattle.history.specs.Good.{begin, update, commit, abort, Good, none, more}
+use Rattle.history.specs.Good.{Good, none, more}
+use Rattle.history.specs.GoodLaws.{good-known, fresh, unended}
 use Rattle.history.specs.Alike.{Alike}
 use Rattle.rules.specs.KeptLaws.{raised, of-kept, above-onto, running-sift, kept-all, runs-sift, of-none}
 use Rattle.history.specs.Kept.{Fitting, fit-none, fit-more, last-low, last-sift, touched-sift, good-sift, value-sift}
-
--- a number not yet begun has no records
-pub fresh : {low : ℕ} {rs : List Record} → Good low rs → (n : ℕ) → above 1 rs ≤ n → of n rs ≡ []
-fresh none n l = refl
-fresh (more {older = rs} g (begin m s a b c d e)) n l = rw (ne-eqb m n (omega arith)) (fresh g n (omega arith))
-fresh (more {older = rs} g (update m k (Assign v) a b c)) n l = let u = below 1 m rs (fresh g) a in rw (ne-eqb m n (omega arith)) (fresh g n l)
-fresh (more {older = rs} g (update m k (Add v) a b c)) n l = let u = below 1 m rs (fresh g) a in rw (ne-eqb m n (omega arith)) (fresh g n l)
-fresh (more {older = rs} g (commit m t a b c)) n l = let u = below 1 m rs (fresh g) a in rw (ne-eqb m n (omega arith)) (fresh g n l)
-fresh (more {older = rs} g (abort m a)) n l = let u = below 1 m rs (fresh g) a in rw (ne-eqb m n (omega arith)) (fresh g n l)
 
 -- a commit is the only end of its transaction
 pub record Ending (low T : ℕ) (whole : List Record) (c : Record) : Type 0 where
@@ -70,17 +60,18 @@ module _ (low T : ℕ) where
   -- a commit of a good journal is the only end of its transaction
   pub ends : {rs : List Record} → Good low rs → Ends low T rs rs
   ends none = e-none
-  ends (more {older = rs} g (begin n s a b c d e)) = e-more (λ x. absurd (false≢true x)) (ends-more (begun n s) rs (rw (fresh g n a)) (ends g))
-  ends (more {older = rs} g (update n k (Assign v) a b c)) = e-more (λ x. absurd (false≢true x))
-      (ends-more (assigned n k v) rs (not-ended (of n rs) a) (ends g))
-  ends (more {older = rs} g (update n k (Add v) a b c)) = e-more (λ x. absurd (false≢true x)) (ends-more (added n k v) rs (not-ended (of n rs) a) (ends g))
-  ends (more {older = rs} g (commit n t a b c)) =
-      let o = not-ended (of n rs) a in
-      let q = eq-eqb n n refl in
-      e-more {c = committed n t}
-      (λ x. record { ended = rw q; settled = rw q; lates = rw (q, not-late T (of n rs) o, or-false (ltb T t)); above-low = omega (arith, low-last low rs) })
-      (ends-more (committed n t) rs o (ends g))
-  ends (more {older = rs} g (abort n a)) = e-more (λ x. absurd (false≢true x)) (ends-more (aborted n) rs (not-ended (of n rs) a) (ends g))
+  ends (more {r = r} {older = rs} g s) =
+      let o = unended g s in
+      let q = eq-eqb (r .transaction) (r .transaction) refl in
+      e-more {c = r}
+      (λ c.
+      record {
+        ended = rw (q, c);
+        settled = rw (q, c);
+        lates = rw (q, c, not-late T (of (r .transaction) rs) o, or-false (ltb T (r .time)));
+        above-low = omega (arith, low-last low rs, s .settles c .later);
+      })
+      (ends-more r rs o (ends g))
 
   -- a checkpoint keeps a commit exactly if it is later than T
   fit-stays : (whole : List Record) {rs : List Record} → Ends low T whole rs → Fitting (stays T whole) T rs
@@ -95,17 +86,16 @@ fit-done low whole (e-more {c = c} p e) = fit-more {r = c} (λ x. rw (p x .settl
 -- the snapshots that T does not pass stay
 raised-not : (T n : ℕ) {low : ℕ} {rs : List Record} → Good low rs → T ≤ snapshot n rs → raised T (of n rs) ≡ of n rs
 raised-not T n none l = refl
-raised-not T n (more {older = rs} g (begin m s a b c d e)) l =
-    split (eqb m n)
-    (λ x. let q = eqb-true m n x in let f = fresh g n (omega arith) in let l2 : T ≤ s = rw (x, f) at l in let z : max T s ≡ s = omega arith in rw (x, f, z))
+raised-not T n (more {r = r} {older = rs} g s) l =
+    split (eqb (r .transaction) n)
+    (λ x.
+    split (isBegin r)
+    (λ b.
+    let f : of n rs ≡ [] = rw (eqb-true (r .transaction) n x) at (fresh g (r .transaction) (s .opens b .fresh)) in
+    let z : max T (r .time) ≡ r .time = let l2 : T ≤ r .time = rw (x, b, f) at l in omega arith in
+    rw (x, b, f, z))
+    (λ b. rw (x, b, raised-not T n g (rw (x, b) at l))))
     (λ x. rw x (raised-not T n g (rw x at l)))
-raised-not T n (more {older = rs} g (update m k (Assign v) a b c)) l = split (eqb m n) (λ x. rw (x, raised-not T n g (rw x at l)))
-    (λ x. rw x (raised-not T n g (rw x at l)))
-raised-not T n (more {older = rs} g (update m k (Add v) a b c)) l = split (eqb m n) (λ x. rw (x, raised-not T n g (rw x at l)))
-    (λ x. rw x (raised-not T n g (rw x at l)))
-raised-not T n (more {older = rs} g (commit m t a b c)) l = split (eqb m n) (λ x. rw (x, raised-not T n g (rw x at l)))
-    (λ x. rw x (raised-not T n g (rw x at l)))
-raised-not T n (more {older = rs} g (abort m a)) l = split (eqb m n) (λ x. rw (x, raised-not T n g (rw x at l))) (λ x. rw x (raised-not T n g (rw x at l)))
 
 -- T is not above the snapshot of a running transaction
 pub not-held : (T n : ℕ) (whole rs : List Record) → any isBegin (of n rs) ≡ true → any (heldBy T whole) rs ≡ false → runs n whole ≡ true → T ≤ snapshot n whole
@@ -120,15 +110,6 @@ not-held T n whole (r ∷ rs) b h u =
     (λ y. not-held T n whole rs (rw (x, y) at b) h2 u))
     (λ x. not-held T n whole rs (rw x at b) h2 u)
 
--- a good journal has known kinds only
-good-known : {low : ℕ} {rs : List Record} → Good low rs → known rs ≡ rs
-good-known none = refl
-good-known (more g (begin n s a b c d e)) = rw (good-known g)
-good-known (more g (update n k (Assign v) a b c)) = rw (good-known g)
-good-known (more g (update n k (Add v) a b c)) = rw (good-known g)
-good-known (more g (commit n t a b c)) = rw (good-known g)
-good-known (more g (abort n a)) = rw (good-known g)
-
 -- what is kept answers as before
 module _ (low fa fb : ℕ) (va vb : ℕ → Value) (a b : List Record) (h : Alike low fa fb va vb a b) (g : Good low a) where
   -- for any choice of kept transactions that fits
@@ -137,7 +118,7 @@ module _ (low fa fb : ℕ) (va vb : ℕ → Value) (a b : List Record) (h : Alik
       → Alike T (above fa a) fb vc vb (sift K T a) b
   alike-sift K T vc l m f keeps below vals =
       record {
-        lasts = rw (last-sift K T l g f, last-low low T b l, h .lasts);
+        lasts = rw (last-sift K T low l f, last-low low T b l, h .lasts);
         aboves = above-onto T K fa (above fa a) a (omega arith) ∙ h .aboves;
         runnings = running-sift T K a a ∙ kept-all T K a a (λ n x. x) keeps ∙ h .runnings;
         run = λ n. runs-sift T K n a (keeps n) ∙ h .run n;

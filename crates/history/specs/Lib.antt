@@ -18,8 +18,8 @@ pub mod Marked
 -- The same on what a journal store means: the invariant of its sequences.
 pub mod Course
 pub mod Good
+pub mod GoodLaws
 pub mod Judged
-pub mod Numbers
 pub mod Alike
 pub mod Kept
 pub mod KeptAlike
@@ -30,6 +30,7 @@ pub mod Listed
 pub mod Rows
 pub mod Replayed
 pub mod Allowed
+pub mod Written
 pub mod Sound
 pub mod Told
 pub mod RefusalsTold

@@ -8,14 +8,13 @@ use lib.Dec.{eqb}
 use borrow.Author.Tests.{eqb-true}
 use Rattle.rules.specs.declared.Record.{Record}
 use Rattle.rules.specs.declared.Effect.{Effect}
-use Rattle.rules.specs.declared.Effect.the-variants.{Assign, Add}
-use Rattle.rules.specs.Kinds.{isUpdate, assigned, added}
+use Rattle.rules.specs.Kinds.{isUpdate}
 use Rattle.rules.specs.Transactions.{any, of, runs, snapshot, wrote, keysWritten, mayWrite}
 use Rattle.rules.specs.Values.{Row, readIn}
 use Rattle.rules.specs.Lists.{among, rowKeys}
 use Rattle.rules.specs.Conflicts.{touched}
 use Rattle.rules.specs.Checkpoints.{held}
-use Rattle.rules.specs.Calls.{Store, nextOf, conflictIn, Begin, Update, Abort, Commit, refusal}
+use Rattle.rules.specs.Calls.{Store, nextOf, conflictIn, updated, Begin, Update, Abort, Commit, refusal}
 use Rattle.rules.specs.Bools.{split, or-right, not-both}
 use Rattle.rules.specs.Columns.{length-keys}
 use Rattle.rules.specs.Running.{wrote-among}
@@ -25,11 +24,12 @@ use Rattle.versions.specs.Versions.{at, later}
 use Rattle.map_store.specs.Meaning.{MapStore, clash, readAt, abortRefusal, updateRefusal, commitRefusal}
 use Rattle.history.specs.History.{Deed, Did, Checkpointed}
 use Rattle.history.specs.Refusals.{anyOf}
-use Rattle.history.specs.KeptAlike.{fresh, not-held}
-use Rattle.history.specs.RefusedAlike.{snapshot-last, hold-none, begun-of}
-use Rattle.history.specs.Numbers.{above-top}
+use Rattle.history.specs.KeptAlike.{not-held}
+use Rattle.history.specs.RefusedAlike.{hold-none}
+use Rattle.history.specs.GoodLaws.{above-top, fresh, begun-of, snapshot-within}
 use Rattle.history.specs.Replayed.{replayed, whole}
 use Rattle.history.specs.Allowed.{refused, Allowed, may-begin, may-update, may-abort, may-commit, may-checkpoint}
+use Rattle.history.specs.Written.{writing}
 use Rattle.history.specs.Lawful.{Lawful, start, went}
 use Rattle.history.specs.Sound.{Sound, sound-last}
 use Rattle.history.specs.Whole.{sound, lawful-allowed}
@@ -135,8 +135,10 @@ module _ (m : MapStore) (h : Store) (a : Agree m (h .low) (h .records)) (g : San
   -- one deed more
   agree-deed : {d : Deed} → Allowed h d → Agree (mapDid d m) (replayed d h .low) (replayed d h .records)
   agree-deed (may-begin t p q u v) = rw next-same (agree-begin m (h .low) (h .records) a g t u)
-  agree-deed (may-update n k (Assign v) p q u) = agree-update m (h .low) (h .records) a g (assigned n k v) p refl refl refl refl q
-  agree-deed (may-update n k (Add v) p q u) = agree-update m (h .low) (h .records) a g (added n k v) p refl refl refl refl q
+  agree-deed (may-update n k e p q u) =
+      let w = writing n k e in
+      rw (w .number, w .key, w .effect) at
+      (agree-update m (h .low) (h .records) a g (updated n k e) (rw (w .number) p) (w .begins) (w .commits) (w .ends) (w .updates) (rw (w .key) q))
   agree-deed (may-abort n p) = agree-abort m (h .low) (h .records) a g n p
   agree-deed (may-commit n t p q u) = agree-commit m (h .low) (h .records) a g n p t q u
   agree-deed (may-checkpoint t p q u) = agree-checkpoint m (h .low) (h .records) a g t p q
@@ -147,7 +149,7 @@ sane h w =
     record {
       fresh = fresh (w .good);
       from = w .from;
-      upto = λ n u. rw (sound-last h w) (snapshot-last (w .good) n (begun-of n (h .records) u));
+      upto = λ n u. rw (sound-last h w) (snapshot-within (w .good) n (begun-of n (h .records) u) .1);
       capped = above-top 1 (omega arith) (w .good);
     }
 

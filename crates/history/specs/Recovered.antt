@@ -23,7 +23,7 @@ use Rattle.history.specs.Judged.{good-accepts, accepts-good}
 use Rattle.history.specs.Kept.{Fitting, last-sift, value-sift}
 use Rattle.history.specs.KeptAlike.{ends, fit-done}
 use Rattle.history.specs.RecoveredAlike.{sift-low, value-low, good-recover}
-use Rattle.history.specs.Numbers.{above-least}
+use Rattle.history.specs.GoodLaws.{above-least}
 
 module _ (K : ℕ → Bool) where
   -- a kept transaction has its records
@@ -95,7 +95,7 @@ module _ (low : ℕ) (rs : List Record) (h : accepts low rs ≡ true) where
 
   -- last stays
   pub survivors-last : last low (survivors rs) ≡ last low rs
-  survivors-last = rw (← sift-low (done rs) good, last-sift (done rs) low (omega arith) good fit) (omega (arith, low-last low rs))
+  survivors-last = rw (← sift-low (done rs) good, last-sift (done rs) low low (omega arith) fit) (omega (arith, low-last low rs))
 
   -- values stay from low on
   pub survivors-value : (v : Value) (k t : ℕ) → low ≤ t → value v k t (survivors rs) ≡ value v k t rs

@@ -8,8 +8,7 @@ use lib.Dec.{eqb}
 use borrow.Author.Tests.{ne-eqb, lt-leb}
 use Rattle.rules.specs.declared.Record.{Record}
 use Rattle.rules.specs.declared.Value.{Value}
-use Rattle.rules.specs.declared.Effect.the-variants.{Assign, Add}
-use Rattle.rules.specs.Kinds.{isCommit, isEnd, aborted}
+use Rattle.rules.specs.Kinds.{isBegin, isCommit, isEnd, aborted}
 use Rattle.rules.specs.Transactions.{any, of, runs, running}
 use Rattle.rules.specs.Times.{above}
 use Rattle.rules.specs.Values.{value}
@@ -19,8 +18,8 @@ use Rattle.rules.specs.Recovery.{done, only}
 use Rattle.rules.specs.Bools.{split, or-none, or-none-left, or-none-right, not-both, implies-false, and-false}
 use Rattle.rules.specs.Running.{not-ended, running-runs}
 use Rattle.journal.specs.Past.{low-last}
-use Rattle.history.specs.Good.{begin, update, commit, abort, Good, none, more}
-use Rattle.history.specs.Alike.{Alike, alike-abort}
+use Rattle.history.specs.Good.{Good, none, more, abort-step}
+use Rattle.history.specs.Alike.{Alike, alike-step}
 use Rattle.history.specs.Kept.{Fitting, fit-more, good-sift}
 use Rattle.history.specs.KeptAlike.{ends, fit-done, alike-sift}
 
@@ -69,20 +68,20 @@ only-end K (n ∷ ns) rs h =
 -- at low no begin is raised
 pub sift-low : (K : ℕ → Bool) {low : ℕ} {rs : List Record} → Good low rs → sift K low rs ≡ only K rs
 sift-low K none = refl
-sift-low K {low} (more g (begin n s a b c d e)) = let z : max low s ≡ s = omega arith in rw (sift-low K g, z)
-sift-low K (more g (update n k (Assign v) a b c)) = rw (sift-low K g)
-sift-low K (more g (update n k (Add v) a b c)) = rw (sift-low K g)
-sift-low K (more g (commit n t a b c)) = rw (sift-low K g)
-sift-low K (more g (abort n a)) = rw (sift-low K g)
+sift-low K {low} (more {r = r} g s) =
+    let i = sift-low K g in
+    split (isBegin r)
+    (λ b. let z : max low (r .time) ≡ r .time = omega (arith, s .opens b .from) in rw (i, b, z))
+    (λ b. rw (i, b))
 
 -- at low the base's value stands
 pub value-low : (v : Value) (k : ℕ) {low : ℕ} {rs : List Record} → Good low rs → value v k low rs ≡ v
 value-low v k none = refl
-value-low v k (more g (begin n s a b c d e)) = value-low v k g
-value-low v k (more g (update n j (Assign u) a b c)) = value-low v k g
-value-low v k (more g (update n j (Add u) a b c)) = value-low v k g
-value-low v k {low} (more {older = rs} g (commit n t a b c)) = rw (lt-leb t low (omega (arith, low-last low rs))) (value-low v k g)
-value-low v k (more g (abort n a)) = value-low v k g
+value-low v k {low} (more {r = r} {older = rs} g s) =
+    let i = value-low v k g in
+    split (isCommit r)
+    (λ c. rw (c, lt-leb (r .time) low (omega (arith, low-last low rs, s .settles c .later))) i)
+    (λ c. rw c i)
 
 -- the next number
 above-end : (f : ℕ) (ns : List ℕ) (rs : List Record) → above f (endAll ns rs) ≡ above f rs
@@ -98,7 +97,7 @@ fit-end K T (n ∷ ns) rs f =
 -- the aborts are steps
 good-end : {low : ℕ} (ns : List ℕ) {rs : List Record} → Good low rs → Good low (endAll ns rs)
 good-end [] g = g
-good-end (n ∷ ns) {rs} g = split (runs n rs) (λ x. rw x (good-end ns (more g (abort n x)))) (λ x. rw x (good-end ns g))
+good-end (n ∷ ns) {rs} g = split (runs n rs) (λ x. rw x (good-end ns (more g (abort-step n x)))) (λ x. rw x (good-end ns g))
 
 -- the aborts in both journals
 alike-end : (low fa fb : ℕ) (va vb : ℕ → Value) (ns : List ℕ) (a b : List Record) → Alike low fa fb va vb a b
@@ -106,7 +105,7 @@ alike-end : (low fa fb : ℕ) (va vb : ℕ → Value) (ns : List ℕ) (a b : Lis
 alike-end low fa fb va vb [] a b h = h
 alike-end low fa fb va vb (n ∷ ns) a b h =
     split (runs n a)
-    (λ x. rw (x, ← h .run n, x) (alike-end low fa fb va vb ns (aborted n ∷ a) (aborted n ∷ b) (alike-abort low fa fb va vb a b h n x)))
+    (λ x. rw (x, ← h .run n, x) (alike-end low fa fb va vb ns (aborted n ∷ a) (aborted n ∷ b) (alike-step low fa fb va vb a b h (aborted n) (λ e. absurd (false≢true e)) (λ e. x))))
     (λ x. rw (x, ← h .run n, x) (alike-end low fa fb va vb ns a b h))
 
 -- a transaction without an end has no commit

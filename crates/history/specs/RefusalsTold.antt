@@ -7,20 +7,20 @@ use lib.Dec.{eqb, ltb}
 use lib.ListN.{length}
 use borrow.Author.Tests.{eqb-true, eq-eqb, ltb-false, le-ltb}
 use Rattle.rules.specs.declared.Record.{Record}
-use Rattle.rules.specs.declared.Effect.the-variants.{Assign, Add}
-use Rattle.rules.specs.Kinds.{isUpdate, begun, assigned, added, committed, aborted}
+use Rattle.rules.specs.Kinds.{isUpdate, isCommit}
 use Rattle.rules.specs.Transactions.{any, of, runs, snapshot, wrote, keysWritten}
 use Rattle.rules.specs.Lists.{among}
 use Rattle.rules.specs.Conflicts.{touched, clashes}
 use Rattle.rules.specs.Checkpoints.{held}
 use Rattle.rules.specs.Calls.{Store, lastOf, Begin, Update, Abort, Commit}
 use Rattle.rules.specs.Bools.{split, or-right, or-none, or-none-left, or-none-right, not-both}
-use Rattle.rules.specs.Running.{not-ended, wrote-skip, touched-skip, touched-open}
+use Rattle.rules.specs.Running.{wrote-skip, touched-open}
 use Rattle.history.specs.History.{Runner, History, Deed, Did, Checkpointed, numbers, snapshotOf, changes}
 use Rattle.history.specs.Refusals.{anyOf, distinctKeys, changedAfter, conflicts, holdsBack, lastIn, refusalIn}
-use Rattle.history.specs.Good.{begin, update, commit, abort, Good, none, more}
+use Rattle.history.specs.Good.{Good, none, more}
+use Rattle.history.specs.GoodLaws.{commit-writes, unended, begun-of}
 use Rattle.history.specs.KeptAlike.{not-held}
-use Rattle.history.specs.RefusedAlike.{hold-none, begun-of}
+use Rattle.history.specs.RefusedAlike.{hold-none}
 use Rattle.history.specs.Allowed.{refused}
 use Rattle.history.specs.Sound.{Sound, sound-next}
 use Rattle.history.specs.Told.{changesIn, commitmentsIn, Tells, last-told, runner}
@@ -41,19 +41,11 @@ keys-told (r ∷ own) =
 -- which keys were written after s: nothing is written behind a commit by its transaction
 touched-told : (s k : ℕ) {low : ℕ} {rs : List Record} → Good low rs → touched rs s k rs ≡ changedAfter (commitmentsIn rs) s k
 touched-told s k none = refl
-touched-told s k (more {older = rs} g (begin n u a b c d e)) = touched-skip (begun n u) refl rs s k rs ∙ touched-told s k g
-touched-told s k (more {older = rs} g (update n j (Assign v) a b c)) =
-    touched-open (assigned n j v) rs s k rs (not-ended (of n rs) a) ∙ touched-told s k g
-touched-told s k (more {older = rs} g (update n j (Add v) a b c)) =
-    touched-open (added n j v) rs s k rs (not-ended (of n rs) a) ∙ touched-told s k g
-touched-told s k (more {older = rs} g (commit n t a b c)) =
-    rw (
-      wrote-skip (committed n t) refl k n rs,
-      touched-skip (committed n t) refl rs s k rs,
-      touched-told s k g,
-      wrote-told k (of n rs),
-    )
-touched-told s k (more {older = rs} g (abort n a)) = touched-skip (aborted n) refl rs s k rs ∙ touched-told s k g
+touched-told s k (more {r = r} {older = rs} g st) =
+    let i = touched-open r rs s k rs (unended g st) ∙ touched-told s k g in
+    split (isCommit r)
+    (λ c. rw (c, wrote-skip r (commit-writes r c) k (r .transaction) rs, i, wrote-told k (of (r .transaction) rs)))
+    (λ c. rw (c, i))
 
 conflict-told : (s : ℕ) {low : ℕ} {rs : List Record} → Good low rs → (own : List Record)
     → any (clashes rs s) own ≡ conflicts (commitmentsIn rs) s (changesIn own)

@@ -1,27 +1,25 @@
 -- What deeds that the rules do not refuse make of the whole journal: a good one. Assumes nothing.
-use mathlib.Core.Path.{_≡_, refl, sym, _∙_}
-use mathlib.Core.Bool.{true, false}
-use mathlib.Core.List.{[], _∷_}
+use mathlib.Core.Path.{_≡_}
+use mathlib.Core.Bool.{true}
+use mathlib.Core.List.{[]}
 use Prim.Native.Nat.{ℕ, _≤_}
 use native.Mathlib.Omega.{arith}
 use lib.Dec.{eqb}
 use borrow.Author.Tests.{eqb-true}
 use Rattle.rules.specs.declared.Record.{Record}
-use Rattle.rules.specs.declared.Effect.the-variants.{Assign, Add}
-use Rattle.rules.specs.Kinds.{isBegin, isEnd, assigned, added, committed, aborted}
+use Rattle.rules.specs.Kinds.{isBegin}
 use Rattle.rules.specs.Transactions.{of, runs, snapshot}
 use Rattle.rules.specs.Times.{last, above}
-use Rattle.rules.specs.Calls.{Store, lastOf, nextOf}
-use Rattle.rules.specs.Bools.{split, not-both, and-false}
-use Rattle.rules.specs.Running.{runs-skip}
-use Rattle.history.specs.History.{Deed}
-use Rattle.history.specs.Good.{begin, update, commit, abort, Good, more}
+use Rattle.rules.specs.Calls.{Store, lastOf, nextOf, recordOf, push}
+use Rattle.rules.specs.Bools.{split}
+use Rattle.history.specs.History.{Deed, Did, Checkpointed}
+use Rattle.history.specs.Good.{Step, Good, more}
+use Rattle.history.specs.GoodLaws.{above-top, fresh, begun-of, last-more}
 use Rattle.history.specs.Kept.{last-low}
-use Rattle.history.specs.KeptAlike.{fresh, not-held}
-use Rattle.history.specs.RefusedAlike.{begun-of}
-use Rattle.history.specs.Numbers.{above-top}
+use Rattle.history.specs.KeptAlike.{not-held}
 use Rattle.history.specs.Replayed.{replayed}
-use Rattle.history.specs.Allowed.{Allowed, may-begin, may-update, may-abort, may-commit, may-checkpoint}
+use Rattle.history.specs.Allowed.{Allowed, may-checkpoint}
+use Rattle.history.specs.Written.{call-step}
 
 -- what such deeds make of the whole journal
 pub record Sound (h : Store) : Type 0 where
@@ -39,53 +37,44 @@ module _ (h : Store) (w : Sound h) where
   pub sound-next : nextOf h ≡ above 1 (h .records)
   sound-next = rw (w .one) (let z = above-top 1 (omega arith) (w .good) in omega arith)
 
-  -- a record that begins nothing leaves the snapshots
-  from-more : (r : Record) → isBegin r ≡ false → ((n : ℕ) → runs n (r ∷ h .records) ≡ true → runs n (h .records) ≡ true)
-      → (n : ℕ) → runs n (r ∷ h .records) ≡ true → h .low ≤ snapshot n (r ∷ h .records)
-  from-more r b f n u =
-      let i = w .from n (f n u) in
-      split (eqb (r .transaction) n) (λ e. rw (e, b) i) (λ e. rw e i)
+  -- and neither does what the walk finds
+  lower : {r : Record} → Step (h .low) (h .records) r → Step 0 (h .records) r
+  lower s =
+      record {
+        form = s .form;
+        opens =
+            λ b.
+            let o = s .opens b in
+            record { fresh = o .fresh; ranged = o .ranged; from = omega arith; upto = omega (arith, o .upto, sound-last); few = o .few };
+        goes-on = s .goes-on;
+        writes = s .writes;
+        settles = λ c. record { later = omega (arith, s .settles c .later, sound-last); clear = s .settles c .clear };
+      }
 
-  -- behind an update the same transactions run
-  update-runs : (r : Record) → isBegin r ≡ false → isEnd r ≡ false → (n : ℕ) → runs n (r ∷ h .records) ≡ true → runs n (h .records) ≡ true
-  update-runs r b e n u = sym (runs-skip r b e n (h .records)) ∙ u
-
-  -- what runs behind an end ran before it
-  end-runs : (r : Record) → isBegin r ≡ false → isEnd r ≡ true → (n : ℕ) → runs n (r ∷ h .records) ≡ true → runs n (h .records) ≡ true
-  end-runs r b e n u = split (eqb (r .transaction) n) (λ x. not-both false (rw (x, b, e, and-false) at u) refl) (λ x. rw x at u)
+  -- one record more
+  sound-step : (r : Record) → Step (h .low) (h .records) r → Sound (push r h)
+  sound-step r s =
+      record {
+        good = more (w .good) (lower s);
+        within = omega (arith, w .within, last-more 0 r (h .records));
+        from =
+            λ m u.
+            split (eqb (r .transaction) m)
+            (λ x.
+            let q : r .transaction ≡ m = eqb-true (r .transaction) m x in
+            split (isBegin r)
+            (λ b.
+            let f : of m (h .records) ≡ [] = rw q at (fresh (w .good) (r .transaction) (s .opens b .fresh)) in
+            rw (x, b, f) (s .opens b .from))
+            (λ b. rw (x, b) (w .from m (rw q at (s .goes-on b)))))
+            (λ x. rw x (w .from m (rw x at u)));
+        one = w .one;
+      }
 
   -- one deed more
-  pub sound-deed : {d : Deed} → Allowed h d → Sound (replayed d h)
-  sound-deed (may-begin t p q u v) =
-      let n : ℕ = nextOf h in
-      let f : of n (h .records) ≡ [] = fresh (w .good) n (omega (arith, sound-next)) in
-      record {
-        good = more (w .good) (begin n t (omega (arith, sound-next)) (omega arith) (omega arith) (omega (arith, sound-last)) u);
-        within = w .within;
-        from =
-            λ m r.
-            split (eqb n m)
-            (λ x. let z : of m (h .records) ≡ [] = rw (eqb-true n m x) at f in rw (x, z) p)
-            (λ x. rw x (w .from m (rw x at r)));
-        one = w .one;
-      }
-  sound-deed (may-update n k (Assign v) p q u) =
-      let r = assigned n k v in
-      record { good = more (w .good) (update n k (Assign v) p q u); within = w .within; from = from-more r refl (update-runs r refl refl); one = w .one }
-  sound-deed (may-update n k (Add v) p q u) =
-      let r = added n k v in
-      record { good = more (w .good) (update n k (Add v) p q u); within = w .within; from = from-more r refl (update-runs r refl refl); one = w .one }
-  sound-deed (may-abort n p) =
-      let r = aborted n in record { good = more (w .good) (abort n p); within = w .within; from = from-more r refl (end-runs r refl refl); one = w .one }
-  sound-deed (may-commit n t p q u) =
-      let r = committed n t in
-      record {
-        good = more (w .good) (commit n t p (omega (arith, sound-last)) u);
-        within = omega (arith, w .within);
-        from = from-more r refl (end-runs r refl refl);
-        one = w .one;
-      }
-  sound-deed (may-checkpoint t p q u) =
+  pub sound-deed : (d : Deed) → Allowed h d → Sound (replayed d h)
+  sound-deed (Did c) a = sound-step (recordOf c h) (call-step h (omega (arith, sound-next)) a)
+  sound-deed (Checkpointed v) (may-checkpoint t p q u) =
       record {
         good = w .good;
         within = omega (arith, sound-last);

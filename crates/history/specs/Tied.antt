@@ -1,7 +1,7 @@
 -- The invariant of every sequence, step by step: the store answers as the whole journal of its deeds, and its own journal is one that the walk accepts, also where
 -- the newest records since the latest checkpoint, restart or start are cut off. Assumes nothing.
 use mathlib.Core.Path.{_≡_, refl, ap, sym, _∙_, subst}
-use mathlib.Core.Bool.{true, false≢true}
+use mathlib.Core.Bool.{true}
 use mathlib.Core.List.{List, [], _∷_}
 use Prim.Native.Nat.{ℕ, zero, suc, _≤_}
 use native.Mathlib.Omega.{arith}
@@ -9,8 +9,7 @@ use lib.ListN.{drop}
 use Rattle.rules.specs.declared.Record.{Record}
 use Rattle.rules.specs.declared.Value.{Value}
 use Rattle.rules.specs.declared.Value.the-variants.{Absent}
-use Rattle.rules.specs.declared.Effect.the-variants.{Assign, Add}
-use Rattle.rules.specs.Kinds.{isBegin, begun, assigned, added, committed, aborted}
+use Rattle.rules.specs.Kinds.{isBegin}
 use Rattle.rules.specs.Transactions.{runs, running}
 use Rattle.rules.specs.Times.{above, next}
 use Rattle.rules.specs.Values.{rowValue}
@@ -22,14 +21,15 @@ use Rattle.rules.specs.Bools.{split}
 use Rattle.rules.specs.Listing.{list-lists}
 use Rattle.history.specs.History.{Deed, Did, Checkpointed, numbers, history, restarted}
 use Rattle.history.specs.Course.{Course, lose, recovered}
-use Rattle.history.specs.Good.{Step, begin, update, commit, abort, Good, none, more}
-use Rattle.history.specs.Alike.{Alike, alike-begin, alike-update, alike-abort, alike-commit}
+use Rattle.history.specs.Good.{Step, Good, none, more}
+use Rattle.history.specs.Alike.{Alike, alike-step}
 use Rattle.history.specs.KeptAlike.{alike-checkpoint, good-checkpoint}
 use Rattle.history.specs.RecoveredAlike.{good-recover, alike-recover}
 use Rattle.history.specs.RefusedAlike.{conflict-same, held-same}
-use Rattle.history.specs.Numbers.{above-mono, above-least, above-top}
+use Rattle.history.specs.GoodLaws.{above-mono, above-least, above-top}
 use Rattle.history.specs.Replayed.{whole, whole-floor}
-use Rattle.history.specs.Allowed.{refused, Allowed, may-begin, may-update, may-abort, may-commit, may-checkpoint, allowed}
+use Rattle.history.specs.Allowed.{refused, Allowed, may-checkpoint, allowed}
+use Rattle.history.specs.Written.{begins-next, same-record, call-step}
 use Rattle.history.specs.Lawful.{Lawful, start, went, lawful-drop}
 use Rattle.history.specs.Whole.{tells, whole-refuses, lawful-aborting, whole-aborting, low-aborting}
 
@@ -40,21 +40,12 @@ pub data Since (low f : ℕ) (mark : List Record) (past : List Deed) : ℕ → L
       → (isBegin r ≡ true → above f a ≤ r .transaction) → whole (d ∷ ds) ≡ push r (whole ds) → Since low f mark past (suc i) (r ∷ a) (d ∷ ds)
 
 module _ (low f fb : ℕ) (va vb : ℕ → Value) where
-  -- two journals stay alike when the same step is written in both
-  alike-step : (a b : List Record) (r : Record) → Alike low f fb va vb a b → Step low a r → (isBegin r ≡ true → above f a ≤ r .transaction)
-      → Alike low f fb va vb (r ∷ a) (r ∷ b)
-  alike-step a b r h (begin n s x y z v w) p = alike-begin low f fb va vb a b h n s (p refl)
-  alike-step a b r h (update n k (Assign v) x y z) p = alike-update low f fb va vb a b h (assigned n k v) x refl refl refl
-  alike-step a b r h (update n k (Add v) x y z) p = alike-update low f fb va vb a b h (added n k v) x refl refl refl
-  alike-step a b r h (commit n t x y z) p = alike-commit low f fb va vb a b h n x t
-  alike-step a b r h (abort n x) p = alike-abort low f fb va vb a b h n x
-
-  -- and so does all that was written since
+  -- two journals stay alike when the same steps are written in both
   alike-since : {mark : List Record} {past : List Deed} {i : ℕ} {a : List Record} {ds : List Deed} → Alike low f fb va vb mark (whole past .records)
       → Since low f mark past i a ds → Alike low f fb va vb a (whole ds .records)
   alike-since h marked = h
   alike-since h (grown {a = a} {ds = ds} r d s x p e) =
-      subst (λ (st : Store). Alike low f fb va vb (r ∷ a) (st .records)) (sym e) (alike-step a (whole ds .records) r (alike-since h s) x p)
+      subst (λ (st : Store). Alike low f fb va vb (r ∷ a) (st .records)) (sym e) (alike-step low f fb va vb a (whole ds .records) (alike-since h s) r p (x .goes-on))
 
 module _ {low f : ℕ} {mark : List Record} {past : List Deed} where
   -- low stays
@@ -194,23 +185,13 @@ module _ (y : Course) (h : Tied y) where
       }
 
   -- an accepted call
-  call-tied : {c : Call} → Allowed (y .store) (Did c) → refused (Did c) (y .store) ≡ 0
-      → Tied (record { store = push (recordOf c (y .store)) (y .store); deeds = Did c ∷ y .deeds; since = suc (y .since) })
-  call-tied (may-begin t p q u v) ok =
-      let n : ℕ = nextOf (y .store) in
-      let i = above-mono 1 (y .store .floor) (y .store .records) (h .floored) in
-      grow (begun n t) (Did (Begin t)) ok (begin n t (omega (arith, next-above)) (omega arith) p q u) (λ c. omega (arith, next-above)) (rw next-whole)
-  call-tied (may-update n k (Assign v) p q u) ok =
-      grow (assigned n k v) (Did (Update n k (Assign v))) ok (update n k (Assign v) p q u) (λ c. absurd (false≢true c)) refl
-  call-tied (may-update n k (Add v) p q u) ok =
-      grow (added n k v) (Did (Update n k (Add v))) ok (update n k (Add v) p q u) (λ c. absurd (false≢true c)) refl
-  call-tied (may-abort n p) ok = grow (aborted n) (Did (Abort n)) ok (abort n p) (λ c. absurd (false≢true c)) refl
-  call-tied (may-commit n t p q u) ok =
-      grow (committed n t) (Did (Commit n t)) ok (commit n t p q u) (λ c. absurd (false≢true c)) refl
-
   pub tied-call : (c : Call) → refusal c (y .store) ≡ 0
       → Tied (record { store = push (recordOf c (y .store)) (y .store); deeds = Did c ∷ y .deeds; since = suc (y .since) })
-  tied-call c ok = call-tied (allowed (y .store) (Did c) ok) ok
+  tied-call c ok =
+      let i = above-mono 1 (y .store .floor) (y .store .records) (h .floored) in
+      grow (recordOf c (y .store)) (Did c) ok (call-step (y .store) (omega (arith, next-above)) (allowed (y .store) (Did c) ok))
+      (λ b. omega (arith, next-above, begins-next c (y .store) b))
+      (ap (λ (r : Record). push r (whole (y .deeds))) (same-record c (whole (y .deeds)) (y .store) (sym next-whole)))
 
   -- a checkpoint's store answers as the whole journal
   pub alike-checkpointed : {T : ℕ} → Allowed (y .store) (Checkpointed T)

@@ -10,20 +10,20 @@ use borrow.Author.Tests.{eqb-true, eq-eqb}
 use Rattle.rules.specs.declared.Record.{Record}
 use Rattle.rules.specs.declared.Value.{Value}
 use Rattle.rules.specs.declared.Value.the-variants.{Absent}
-use Rattle.rules.specs.declared.Effect.the-variants.{Assign, Add}
-use Rattle.rules.specs.Kinds.{isBegin, isUpdate, isCommit, isEnd, begun, assigned, added, committed, aborted}
+use Rattle.rules.specs.Kinds.{isBegin, isUpdate, isCommit, isEnd, begun, committed, aborted}
 use Rattle.rules.specs.Effects.{effectOf, effects}
 use Rattle.rules.specs.Transactions.{of, runs, snapshot, running}
 use Rattle.rules.specs.Times.{last, above}
 use Rattle.rules.specs.Values.{value}
 use Rattle.rules.specs.Lists.{among}
-use Rattle.rules.specs.Calls.{Store, Begin, push}
+use Rattle.rules.specs.Calls.{Store, updated, Begin, push}
 use Rattle.rules.specs.Bools.{split, not-both, and-false}
 use Rattle.rules.specs.Running.{without, running-skip, running-end, runs-skip, running-runs}
 use Rattle.history.specs.History.{Change, Commitment, Runner, History, Deed, Did, numbers, changesOf, snapshotOf, changed, ended, recalled, told, making, valueIn, latest}
-use Rattle.history.specs.KeptAlike.{fresh}
+use Rattle.history.specs.GoodLaws.{fresh}
 use Rattle.history.specs.Replayed.{replayed}
 use Rattle.history.specs.Allowed.{Allowed, may-begin, may-update, may-abort, may-commit, may-checkpoint}
+use Rattle.history.specs.Written.{writing}
 use Rattle.history.specs.Sound.{Sound, sound-next}
 
 -- an update record as a change
@@ -200,8 +200,10 @@ module _ (h : History) (s : Store) (w : Sound s) (t : Tells h s) where
   -- one deed more
   pub tells-deed : {d : Deed} → Allowed s d → Tells (told d h) (replayed d s)
   tells-deed (may-begin u p q x y) = tells-begin u
-  tells-deed (may-update n k (Assign v) p q x) = tells-update (assigned n k v) refl refl refl refl p
-  tells-deed (may-update n k (Add v) p q x) = tells-update (added n k v) refl refl refl refl p
+  tells-deed (may-update n k e p q x) =
+      let w = writing n k e in
+      rw (w .number, w .key, w .effect) at
+      (tells-update (updated n k e) (w .updates) (w .begins) (w .commits) (w .ends) (rw (w .number) p))
   tells-deed (may-abort n p) =
       let r = aborted n in
       record {

@@ -31,8 +31,8 @@ refuses : {ds : List Deed} → Followed ds → (d : Deed) → refused d (whole d
 refuses {ds} t d = refused-told (history ds) (whole ds) (t .sound) (t .tells) d
 
 followed-deed : {ds : List Deed} → Followed ds → {d : Deed} → Allowed (whole ds) d → Followed (d ∷ ds)
-followed-deed {ds} t a =
-    record { sound = sound-deed (whole ds) (t .sound) a; tells = tells-deed (history ds) (whole ds) (t .sound) (t .tells) a }
+followed-deed {ds} t {d} a =
+    record { sound = sound-deed (whole ds) (t .sound) d a; tells = tells-deed (history ds) (whole ds) (t .sound) (t .tells) a }
 
 followed : {ds : List Deed} → Lawful ds → Followed ds
 followed start =
