@@ -8,7 +8,6 @@ use native.Mathlib.Omega.{arith}
 use lib.Dec.{eqb}
 use lib.ListN.{length}
 use Rattle.rules.specs.declared.Value.the-variants.{Absent}
-use Rattle.rules.specs.Values.{Row}
 use Rattle.rules.specs.Calls.{Commit}
 use Rattle.answer.specs.declared.Refusal.{Refusal}
 use Rattle.answer.specs.declared.Refusal.the-variants.{BadShape}
@@ -16,6 +15,7 @@ use Rattle.answer.specs.declared.Done.the-variants as done
 use Rattle.answer.specs.Reply.{Reply, refused, accepted, ofDone}
 use Rattle.answer.specs.Laws.{refused-some, after-refused}
 use Rattle.slot.specs.Slots.{slotOf}
+use Rattle.slot.specs.Places.{Note}
 use Rattle.versions.specs.Columns.{Lent}
 use Rattle.map_store.specs.declared.MapHead.{MapHead}
 use Rattle.map_store.specs.declared.Outcome.{Outcome}
@@ -26,7 +26,7 @@ use Rattle.map_store.specs.Contracts.{number, decided, Committed}
 use Rattle.map_store.specs.Laws.{number-bad, number-good, changed, bad-shape, answered}
 
 -- the columns with some rows written behind their used ones at one commit time, and how many are used then
-pub record Stamped (t used : ℕ) (rows : List Row) (ks ts vs ks' ts' vs' : List ℕ) (r : ℕ) : Type 0 where
+pub record Stamped (t used : ℕ) (rows : List Note) (ks ts vs ks' ts' vs' : List ℕ) (r : ℕ) : Type 0 where
   pub count : r ≡ used + length rows
   pub keys : ks' ≡ written used (λ r. r .key) rows ks
   pub times : ts' ≡ written used (λ r. t) rows ts

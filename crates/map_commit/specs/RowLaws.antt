@@ -10,12 +10,11 @@ use lib.Dec.{eqb}
 use lib.ListN.{length, getD, take}
 use borrow.Author.Tests.{eqb-true, eqb-false, not-true, not-false}
 use Rattle.rules.specs.Bools.{split, or-left, or-right}
-use Rattle.rules.specs.Values.{Row}
 use Rattle.column.specs.Column.{firstRow}
 use Rattle.slot.specs.declared.Slot.{Slot}
 use Rattle.slot.specs.Slots.{met}
 use Rattle.slot.specs.Formed.{Rowed}
-use Rattle.slot.specs.Places.{hasKey, rowsOf}
+use Rattle.slot.specs.Places.{Note, hasKey, rowsOf}
 use Rattle.slot.specs.RowLaws.{has-row}
 use Rattle.versions.specs.declared.Version.{Version}
 use Rattle.versions.specs.Versions.{later}
@@ -74,14 +73,14 @@ module _ (ks vs : List ℕ) where
         or-right (later s (getD ks n 0) versions) (clash s (rowsOf ks vs n) versions) (clash-among i n (omega arith) e))
 
 -- no more rows count than there are
-pub length-firsts : (rows : List Row) → length (firsts rows) ≤ length rows
+pub length-firsts : (rows : List Note) → length (firsts rows) ≤ length rows
 length-firsts [] = omega arith
 length-firsts (r ∷ rows) =
     let m = length-firsts rows in
     split (hasKey (r .key) rows) (λ t. rw t (omega arith)) (λ t. rw t (omega arith))
 
 -- a row appended behind those that were written is one row more
-pub stamped-more : (t used : ℕ) (rows : List Row) (r : Row) (ks ts vs ks₁ ts₁ vs₁ ks₂ ts₂ vs₂ : List ℕ) (at : ℕ)
+pub stamped-more : (t used : ℕ) (rows : List Note) (r : Note) (ks ts vs ks₁ ts₁ vs₁ ks₂ ts₂ vs₂ : List ℕ) (at : ℕ)
     → Stamped t used rows ks ts vs ks₁ ts₁ vs₁ at → Appended at (r .key) t (r .value) ks₁ ts₁ vs₁ ks₂ ts₂ vs₂
     → Stamped t used (r ∷ rows) ks ts vs ks₂ ts₂ vs₂ (at + 1)
 stamped-more t used rows r ks ts vs ks₁ ts₁ vs₁ ks₂ ts₂ vs₂ at w p =

@@ -4,13 +4,12 @@ use Prim.Native.Nat.{ℕ, _+_}
 use lib.ListN.{length, set}
 use Rattle.rules.specs.declared.Effect.{Effect}
 use Rattle.rules.specs.Effects.{orZero, applied}
-use Rattle.rules.specs.Values.{Row}
 use Rattle.rules.specs.Calls.{Call, Begin, Update, Abort, Commit}
 use Rattle.column.specs.declared.Found.{Found}
 use Rattle.column.specs.declared.Found.the-variants.{At, Nothing}
 use Rattle.slot.specs.declared.Slots.{Slots}
 use Rattle.slot.specs.Slots.{slotAt, slotOf, openedIn, notedIn, closedIn}
-use Rattle.slot.specs.Places.{slotRows, placeIn}
+use Rattle.slot.specs.Places.{Note, slotRows, placeIn}
 use Rattle.versions.specs.declared.Version.{Version}
 use Rattle.versions.specs.Versions.{keptFrom}
 use Rattle.map_store.specs.declared.MapHead.{MapHead}
@@ -39,7 +38,7 @@ abortedHead (At i) h = withSlots h (closedIn (h .slots) i)
 abortedHead Nothing h = h
 
 -- the rows that the slot that was found gives a commit
-abbrev pub rowsIn : Slots → Found → List Row
+abbrev pub rowsIn : Slots → Found → List Note
 rowsIn s f = rowsAt (placeIn s f)
 
 -- commit: last is the commit time, the rows are counted, and the slot is freed
@@ -56,7 +55,7 @@ headAfter (Abort n) h vs = abortedHead (slotOf (h .slots) n) h
 headAfter (Commit n t) h vs = committedHead t (slotOf (h .slots) n) h
 
 -- a column whose first n rows are used, with one field of some rows written behind these, the oldest row first
-abbrev pub written : ℕ → (Row → ℕ) → List Row → List ℕ → List ℕ
+abbrev pub written : ℕ → (Note → ℕ) → List Note → List ℕ → List ℕ
 written n field [] cells = cells
 written n field (r ∷ older) cells = set (written n field older cells) (n + length older) (field r)
 

@@ -9,9 +9,8 @@ use Rattle.rules.specs.declared.Value.{Value}
 use Rattle.rules.specs.declared.Value.the-variants.{Absent, Present}
 use Rattle.rules.specs.declared.Effect.{Effect}
 use Rattle.rules.specs.Effects.{orZero, applied}
-use Rattle.rules.specs.Values.{Row}
 use Rattle.rules.specs.Calls.{Call, Begin, Update, Abort, Commit, withRoom}
-use Rattle.slot.specs.Places.{Place, free, taken, hasKey, orElse, runningValue, note, placeOf, openIn, amend, occupied, holds}
+use Rattle.slot.specs.Places.{Note, Place, free, taken, hasKey, orElse, runningValue, note, placeOf, openIn, amend, occupied, holds}
 use Rattle.versions.specs.declared.Version.{Version}
 use Rattle.versions.specs.Versions.{valueAt, later, keptFrom, listAt}
 
@@ -29,17 +28,17 @@ emptyMap =
     record { low = 0; last = 0; next = 1; places = free ∷ free ∷ free ∷ free ∷ free ∷ free ∷ free ∷ free ∷ []; versions = [] }
 
 -- the rows that count: of one key twice the older one
-abbrev pub firsts : List Row → List Row
+abbrev pub firsts : List Note → List Note
 firsts [] = []
 firsts (r ∷ rows) = cond (hasKey (r .key) rows) (firsts rows) (r ∷ firsts rows)
 
 -- rule 3.6: a version of a written key is later than the snapshot
-abbrev pub clash : ℕ → List Row → List Version → Bool
+abbrev pub clash : ℕ → List Note → List Version → Bool
 clash s [] vs = false
 clash s (r ∷ rows) vs = later s (r .key) vs || clash s rows vs
 
 -- rule 3.5: the running value in a key's row, or the value at the snapshot where it has none
-abbrev pub current : ℕ → ℕ → List Row → List Version → Value
+abbrev pub current : ℕ → ℕ → List Note → List Version → Value
 current k s rows vs = orElse (runningValue k rows) (valueAt k s vs)
 
 -- what a transaction reads in a key
@@ -51,7 +50,7 @@ abbrev pub readIn : ℕ → ℕ → MapStore → Value
 readIn n k m = readAt k (placeOf n (m .places)) (m .versions)
 
 -- the rows that a transaction would commit
-abbrev pub rowsAt : Place → List Row
+abbrev pub rowsAt : Place → List Note
 rowsAt free = []
 rowsAt (taken n s rows) = firsts rows
 
@@ -120,7 +119,7 @@ updatedPlace k e free vs = free
 updatedPlace k e (taken n s rows) vs = taken n s (note k (orZero (applied e (current k s rows vs))) rows)
 
 -- rule 3.8: a version for each row, at the commit time, with the running value
-abbrev pub stamp : ℕ → List Row → List Version → List Version
+abbrev pub stamp : ℕ → List Note → List Version → List Version
 stamp t [] vs = vs
 stamp t (r ∷ rows) vs = record { key = r .key; time = t; value = r .value } ∷ stamp t rows vs
 

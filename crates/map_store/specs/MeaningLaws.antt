@@ -10,7 +10,6 @@ use lib.ListN.{length, drop, replicate, length-set, length-append, length-drop, 
 use borrow.Author.Tests.{le-leb, eq-eqb, ne-eqb}
 use Rattle.rules.specs.declared.Effect.{Effect}
 use Rattle.rules.specs.Effects.{orZero, applied}
-use Rattle.rules.specs.Values.{Row}
 use Rattle.rules.specs.Passed.{passed}
 use Rattle.rules.specs.Calls.{Begin, Update, Abort, Commit}
 use Rattle.column.specs.declared.Found.the-variants.{At, Nothing}
@@ -19,7 +18,7 @@ use Rattle.slot.specs.Slots.{slotAt, slotOf, hasNumber}
 use Rattle.slot.specs.Formed.{Formed}
 use Rattle.slot.specs.FormedLaws.{formed-empty, formed-opened, formed-noted, formed-closed, formed-shaped}
 use Rattle.slot.specs.Laws.{first-slot}
-use Rattle.slot.specs.Places.{Place, hasKey, placesOf, slotRows}
+use Rattle.slot.specs.Places.{Note, Place, hasKey, placesOf, slotRows}
 use Rattle.slot.specs.PlaceLaws.{empty-places, opened-places, closed-places, noted-places}
 use Rattle.slot.specs.RowLaws.{cases, length-rows}
 use Rattle.versions.specs.declared.Version.{Version}
@@ -54,12 +53,12 @@ pub empty-meaning : (ks ts vs : List ℕ) → meaning emptyHead ks ts vs ≡ emp
 empty-meaning ks ts vs = ap (λ (ps : List Place). record { low = 0; last = 0; next = 1; places = ps; versions = [] }) empty-places
 
 -- what is written is written over
-pub length-written : (n : ℕ) (field : Row → ℕ) (rows : List Row) (cells : List ℕ) → length (written n field rows cells) ≡ length cells
+pub length-written : (n : ℕ) (field : Note → ℕ) (rows : List Note) (cells : List ℕ) → length (written n field rows cells) ≡ length cells
 length-written n field [] cells = refl
 length-written n field (r ∷ older) cells = length-set (written n field older cells) (n + length older) (field r) ∙ length-written n field older cells
 
 -- rows written behind n used ones are a version each
-pub stamped-versions : (t n : ℕ) (rows : List Row) (ks ts vs : List ℕ) → Lent (n + length rows) ks ts vs
+pub stamped-versions : (t n : ℕ) (rows : List Note) (ks ts vs : List ℕ) → Lent (n + length rows) ks ts vs
     → versionsOf (n + length rows) (written n (λ r. r .key) rows ks) (written n (λ r. t) rows ts) (written n (λ r. r .value) rows vs)
     ≡ stamp t rows (versionsOf n ks ts vs)
 stamped-versions t n [] ks ts vs l = rw add-zero

@@ -11,10 +11,9 @@ use Rattle.rules.specs.declared.Value.{Value}
 use Rattle.rules.specs.declared.Effect.{Effect}
 use Rattle.rules.specs.Bools.{split}
 use Rattle.rules.specs.Passed.{passed, fitting}
-use Rattle.rules.specs.Values.{Row}
 use Rattle.rules.specs.Calls.{Begin, Update, Abort, Commit, withRoom}
 use Rattle.answer.specs.Reply.{accepted, told}
-use Rattle.slot.specs.Places.{free, taken, hasKey, placeOf, occupied, holds}
+use Rattle.slot.specs.Places.{Note, free, taken, hasKey, placeOf, occupied, holds}
 use Rattle.versions.specs.Versions.{listAt}
 use Rattle.map_store.specs.Meaning.{MapStore, firsts, clash, rowsAt, timeRefusal, mapRefusal, mapAnswer, readRefusal, lookupRefusal, listAnswer, checkpointRefusal}
 
@@ -96,7 +95,7 @@ module _ (m : MapStore) (n : ℕ) where
     pub commit-unknown : (room t : ℕ) → mapAnswer room (Commit n t) m ≡ 2
     commit-unknown room t = rw p
 
-  module _ (x s : ℕ) (rows : List Row) (p : placeOf n (m .places) ≡ taken x s rows) where
+  module _ (x s : ℕ) (rows : List Note) (p : placeOf n (m .places) ≡ taken x s rows) where
     pub abort-done : mapRefusal (Abort n) m ≡ 0
     abort-done = rw p
 

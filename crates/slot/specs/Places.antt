@@ -13,13 +13,17 @@ use Rattle.slot.specs.declared.Slot.{Slot}
 use Rattle.slot.specs.declared.Slots.{Slots}
 use Rattle.slot.specs.Slots.{slotAt, isOccupied}
 
+-- a row of a slot: a key that its transaction wrote, and the running value
+abbrev pub Note : Type 0
+Note = Row
+
 -- free, or taken by a transaction: its number, its snapshot, a row for each key that it wrote
 pub data Place : Type 0 where
   free : Place
-  taken : ℕ → ℕ → List Row → Place
+  taken : ℕ → ℕ → List Note → Place
 
 -- some row has the key
-abbrev pub hasKey : ℕ → List Row → Bool
+abbrev pub hasKey : ℕ → List Note → Bool
 hasKey k [] = false
 hasKey k (r ∷ rows) = eqb (r .key) k || hasKey k rows
 
@@ -29,18 +33,18 @@ orElse Absent w = w
 orElse (Present v) w = Present v
 
 -- the value in a key's row: of one key twice the oldest row counts
-abbrev pub runningValue : ℕ → List Row → Value
+abbrev pub runningValue : ℕ → List Note → Value
 runningValue k [] = Absent
 runningValue k (r ∷ rows) = orElse (runningValue k rows) (cond (eqb (r .key) k) (Present (r .value)) Absent)
 
 -- the value in a key's row replaced
-abbrev pub reset : ℕ → ℕ → List Row → List Row
+abbrev pub reset : ℕ → ℕ → List Note → List Note
 reset k v [] = []
 reset k v (r ∷ rows) =
     cond (hasKey k rows) (r ∷ reset k v rows) (cond (eqb (r .key) k) (record { key = k; value = v } ∷ rows) (r ∷ rows))
 
 -- a write noted: the key's row gets the value, or there is a new row
-abbrev pub note : ℕ → ℕ → List Row → List Row
+abbrev pub note : ℕ → ℕ → List Note → List Note
 note k v rows = cond (hasKey k rows) (reset k v rows) (record { key = k; value = v } ∷ rows)
 
 -- the place of a transaction: of several with one number the lowest
@@ -74,12 +78,12 @@ holds t (free ∷ ps) = holds t ps
 holds t (taken m s rows ∷ ps) = ltb s t || holds t ps
 
 -- the first n rows of two columns
-abbrev pub rowsOf : List ℕ → List ℕ → ℕ → List Row
+abbrev pub rowsOf : List ℕ → List ℕ → ℕ → List Note
 rowsOf keys values zero = []
 rowsOf keys values (suc n) = record { key = getD keys n 0; value = getD values n 0 } ∷ rowsOf keys values n
 
 -- the rows of a slot
-abbrev pub slotRows : Slot → List Row
+abbrev pub slotRows : Slot → List Note
 slotRows s = rowsOf (s .keys) (s .values) (s .count)
 
 -- the running value in the row that was found
