@@ -1,7 +1,7 @@
 -- Two journals that answer alike from low on: a, which checkpoints and recoveries have shortened, and b, which nothing has. They stay alike when the
 -- same record is written in both. `fa` and `fb` are the floors, `va` and `vb` the values of the bases. Assumes nothing.
 use mathlib.Core.Path.{_≡_, ap, sym, _∙_}
-use mathlib.Core.Bool.{true, false}
+use mathlib.Core.Bool.{Bool, true, false}
 use mathlib.Core.List.{List, [], _∷_}
 use Prim.Native.Nat.{ℕ, _<_, _≤_}
 use native.Mathlib.Omega.{arith}
@@ -14,6 +14,7 @@ use Rattle.rules.specs.Transactions.{any, of, runs, running}
 use Rattle.rules.specs.Times.{lastStep, last, aboveStep, above}
 use Rattle.rules.specs.Values.{value}
 use Rattle.rules.specs.Conflicts.{touched}
+use Rattle.rules.specs.Meeting.{ReadsUpdates}
 use Rattle.rules.specs.Bools.{split}
 use Rattle.rules.specs.Running.{not-ended, running-skip, running-end, touched-open, below}
 use Rattle.history.specs.GoodLaws.{above-more}
@@ -26,7 +27,7 @@ pub record Alike (low fa fb : ℕ) (va vb : ℕ → Value) (a b : List Record) :
   pub run : (n : ℕ) → runs n a ≡ runs n b
   pub own : (n : ℕ) → runs n a ≡ true → of n a ≡ of n b
   pub values : (k t : ℕ) → 1 ≤ k → low ≤ t → value (va k) k t a ≡ value (vb k) k t b
-  pub touches : (s k : ℕ) → low ≤ s → touched a s k a ≡ touched b s k b
+  pub touches : (s : ℕ) (test : List Record → Bool) → ReadsUpdates test → low ≤ s → touched a s test a ≡ touched b s test b
   pub freshA : (n : ℕ) → above fa a ≤ n → of n a ≡ []
   pub freshB : (n : ℕ) → above fb b ≤ n → of n b ≡ []
 
@@ -77,8 +78,8 @@ module _ (low fa fb : ℕ) (va vb : ℕ → Value) (a b : List Record) (h : Alik
             (λ e. rw e (h .own m (rw e at u)));
         values = λ k t i l. rw (same, h .values k t i l);
         touches =
-            λ s k l.
-            rw (touched-open r a s k a unended, touched-open r b s k b (rw same at unended), h .touches s k l, same);
+            λ s test q l.
+            rw (touched-open r a s test a unended, touched-open r b s test b (rw same at unended), h .touches s test q l, same);
         freshA =
             λ m l.
             rw (ne-eqb (r .transaction) m (omega (arith, number-below))) (h .freshA m (omega (arith, above-more fa r a)));

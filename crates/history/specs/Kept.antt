@@ -10,13 +10,14 @@ use borrow.Author.Tests.{ltb-true, ltb-false, le-leb, lt-leb, lt-ltb, le-ltb}
 use Rattle.rules.specs.declared.Record.{Record}
 use Rattle.rules.specs.declared.Value.{Value}
 use Rattle.rules.specs.Kinds.{isBegin, isUpdate, isCommit}
-use Rattle.rules.specs.Transactions.{any, of, runs, firstBegin, snapshot, wrote, running, mayWrite}
+use Rattle.rules.specs.Transactions.{any, of, runs, firstBegin, snapshot, running, mayWrite}
 use Rattle.rules.specs.Times.{last}
 use Rattle.rules.specs.Values.{value}
-use Rattle.rules.specs.Conflicts.{wroteAfter, touched, clashes, conflict}
+use Rattle.rules.specs.Conflicts.{metOn, committedAfter, touched, clashes, conflict}
+use Rattle.rules.specs.Meeting.{ReadsUpdates, met-reads, touched-same}
 use Rattle.rules.specs.Checkpoints.{raise, sift}
 use Rattle.rules.specs.Bools.{split, and-left, and-right, and-both, or-left, or-right, implies-false, and-false}
-use Rattle.rules.specs.KeptLaws.{raised, of-kept, above-sift, kept-fewer, running-sift, raised-begin, raised-end, raised-wrote, raised-keys, raised-effects, raised-snapshot}
+use Rattle.rules.specs.KeptLaws.{raised, of-kept, above-sift, kept-fewer, running-sift, raised-begin, raised-end, raised-updates, met-raised, raised-wrote, raised-keys, raised-effects, raised-snapshot}
 use Rattle.history.specs.Good.{Step, Good, none, more}
 use Rattle.history.specs.GoodLaws.{commit-begins, begun-of, last-more}
 
@@ -30,20 +31,19 @@ pub last-low : (low T : ℕ) (rs : List Record) → low ≤ T → last T rs ≡ 
 last-low low T [] l = omega arith
 last-low low T (r ∷ rs) l = split (isCommit r) (λ c. rw (c, last-low low T rs l) (omega arith)) (λ c. rw (c, last-low low T rs l))
 
--- what was written after u was written after an earlier s
-touched-later : (whole : List Record) (s u k : ℕ) (rs : List Record) → s ≤ u → touched whole u k rs ≡ true → touched whole s k rs ≡ true
-touched-later whole s u k [] l h = h
-touched-later whole s u k (c ∷ rs) l h =
-    split (wroteAfter whole u k c)
+-- who committed after u committed after an earlier s
+touched-later : (whole : List Record) (s u : ℕ) (test : List Record → Bool) (rs : List Record) → s ≤ u → touched whole u test rs ≡ true → touched whole s test rs ≡ true
+touched-later whole s u test [] l h = h
+touched-later whole s u test (c ∷ rs) l h =
+    let passes = test (of (c .transaction) whole) in
+    split (committedAfter whole u test c)
     (λ e.
-    let d = and-right (isCommit c) (ltb u (c .time) && wrote k (of (c .transaction) whole)) e in
-    let v = ltb-true u (c .time) (and-left (ltb u (c .time)) (wrote k (of (c .transaction) whole)) d) in
-    or-left (wroteAfter whole s k c) (touched whole s k rs)
-    (and-both (isCommit c) (ltb s (c .time) && wrote k (of (c .transaction) whole))
-    (and-left (isCommit c) (ltb u (c .time) && wrote k (of (c .transaction) whole)) e)
-    (and-both (ltb s (c .time)) (wrote k (of (c .transaction) whole)) (lt-ltb s (c .time) (omega arith))
-    (and-right (ltb u (c .time)) (wrote k (of (c .transaction) whole)) d))))
-    (λ e. or-right (wroteAfter whole s k c) (touched whole s k rs) (touched-later whole s u k rs l (rw e at h)))
+    let d = and-right (isCommit c) (ltb u (c .time) && passes) e in
+    let v = ltb-true u (c .time) (and-left (ltb u (c .time)) passes d) in
+    or-left (committedAfter whole s test c) (touched whole s test rs)
+    (and-both (isCommit c) (ltb s (c .time) && passes) (and-left (isCommit c) (ltb u (c .time) && passes) e)
+    (and-both (ltb s (c .time)) passes (lt-ltb s (c .time) (omega arith)) (and-right (ltb u (c .time)) passes d))))
+    (λ e. or-right (committedAfter whole s test c) (touched whole s test rs) (touched-later whole s u test rs l (rw e at h)))
 
 module _ (K : ℕ → Bool) (T : ℕ) where
   -- last becomes T where it was below
@@ -58,18 +58,19 @@ module _ (K : ℕ → Bool) (T : ℕ) where
       (λ x. let y = ltb-false T (r .time) x in rw (p c, x, c, i) (omega arith)))
       (λ c. split (K (r .transaction)) (λ x. rw (x, c, i)) (λ x. rw (x, c, i)))
 
-  -- after T the same commits wrote the same keys
-  pub touched-sift : (whole : List Record) (s k : ℕ) {rs : List Record} → T ≤ s → Fitting K T rs
-      → touched (sift K T whole) s k (sift K T rs) ≡ touched whole s k rs
-  touched-sift whole s k l fit-none = refl
-  touched-sift whole s k l (fit-more {r = c} {rs = rs} p f) =
-      let i = touched-sift whole s k l f in
+  -- after T the same transactions committed, with the same updates
+  pub touched-sift : (whole : List Record) (s : ℕ) (test : List Record → Bool) → ReadsUpdates test → {rs : List Record} → T ≤ s → Fitting K T rs
+      → touched (sift K T whole) s test (sift K T rs) ≡ touched whole s test rs
+  touched-sift whole s test q l fit-none = refl
+  touched-sift whole s test q l (fit-more {r = c} {rs = rs} p f) =
+      let i = touched-sift whole s test q l f in
+      let own = of (c .transaction) whole in
       split (isCommit c)
       (λ x.
       let y : isBegin c ≡ false = commit-begins c x in
       split (ltb T (c .time))
-      (λ z. rw (p x, z, x, y, of-kept T K (c .transaction) (p x ∙ z) whole, raised-wrote T k (of (c .transaction) whole), i))
-      (λ z. let q = ltb-false T (c .time) z in rw (p x, z, le-ltb s (c .time) (omega arith), and-false, i)))
+      (λ z. rw (p x, z, x, y, of-kept T K (c .transaction) (p x ∙ z) whole, q (raised T own) own (raised-updates T own), i))
+      (λ z. let early = ltb-false T (c .time) z in rw (p x, z, le-ltb s (c .time) (omega arith), and-false, i)))
       (λ x. split (K (c .transaction)) (λ z. rw (z, x, i)) (λ z. rw (z, x, i)))
 
   -- a raised record that passes a test comes from one that does
@@ -87,11 +88,16 @@ module _ (K : ℕ → Bool) (T : ℕ) where
       let u : ℕ = max T (firstBegin (of n rs)) in
       let e : snapshot n (sift K T rs) ≡ u = ap firstBegin (of-kept T K n h rs) ∙ raised-snapshot T (of n rs) b in
       implies-false (conflict n (snapshot n (sift K T rs)) (sift K T rs)) (conflict n (snapshot n rs) rs)
-      (λ x. any-raised (clashes rs (snapshot n rs)) (clashes (sift K T rs) u) (of n rs) (λ r y.
-      and-both (isUpdate r) (touched rs (snapshot n rs) (r .key) rs)
-      (and-left (isUpdate r) (touched (sift K T rs) u (r .key) (sift K T rs)) y)
-      (touched-later rs (snapshot n rs) u (r .key) rs (omega arith)
-      (sym (touched-sift rs u (r .key) (omega arith) f) ∙ and-right (isUpdate r) (touched (sift K T rs) u (r .key) (sift K T rs)) y)))
+      (λ x. any-raised (clashes rs (snapshot n rs) (of n rs)) (clashes (sift K T rs) u (raised T (of n rs))) (of n rs) (λ r y.
+      let own = of n rs in
+      let test = metOn (r .key) own in
+      let late-ones = touched (sift K T rs) u (metOn (r .key) (raised T own)) (sift K T rs) in
+      and-both (isUpdate r) (touched rs (snapshot n rs) test rs)
+      (and-left (isUpdate r) late-ones y)
+      (touched-later rs (snapshot n rs) u test rs (omega arith)
+      (sym (touched-sift rs u test (met-reads (r .key) own) (omega arith) f)
+      ∙ sym (touched-same (sift K T rs) u (metOn (r .key) (raised T own)) test (met-raised T (r .key) own) (sift K T rs))
+      ∙ and-right (isUpdate r) late-ones y)))
       (rw (e, of-kept T K n h rs) at x))
 
   -- a kept transaction may write what it could

@@ -127,7 +127,7 @@ module _ (low fa fb : ℕ) (va vb : ℕ → Value) (a b : List Record) (h : Alik
             let v : runs n a ≡ true = rw (runs-sift T K n a (keeps n)) at u in
             of-kept T K n (keeps n v) a ∙ raised-not T n g (below n v) ∙ h .own n v;
         values = λ k t i j. value-sift K T (va k) (vc k) k t j g f (vals k i) ∙ h .values k t i (omega arith);
-        touches = λ s k j. touched-sift K T a s k j f ∙ h .touches s k (omega arith);
+        touches = λ s test q j. touched-sift K T a s test q j f ∙ h .touches s test q (omega arith);
         freshA = λ n i. of-none T K n a (h .freshA n (rw (above-onto T K fa (above fa a) a (omega arith)) at i));
         freshB = h .freshB;
       }

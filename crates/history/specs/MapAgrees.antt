@@ -1,7 +1,7 @@
 -- The map store agrees with the whole journal of the same deeds: each place tells of its transaction what the journal does, versions give the same
 -- values and the same conflicts. Assumes nothing.
 use mathlib.Core.Path.{_≡_, refl, ap, sym, _∙_, subst}
-use mathlib.Core.Bool.{true, false, not, false≢true}
+use mathlib.Core.Bool.{Bool, _&&_, true, false, not, false≢true}
 use mathlib.Core.List.{List, [], _∷_}
 use Prim.Native.Nat.{ℕ, _+_, _<_, _≤_}
 use native.Mathlib.Omega.{arith}
@@ -19,8 +19,9 @@ use Rattle.rules.specs.Transactions.{any, of, runs, snapshot, wrote, keysWritte
 use Rattle.rules.specs.Times.{last, above}
 use Rattle.rules.specs.Values.{Row, value, readIn}
 use Rattle.rules.specs.Lists.{among, rowKeys}
-use Rattle.rules.specs.Conflicts.{wroteAfter, touched, clashes, conflict}
-use Rattle.rules.specs.Bools.{split, and-left, and-right, and-both, or-none-left, or-none-right, not-both, implies-false, and-false}
+use Rattle.rules.specs.Conflicts.{metOn, committedAfter, touched, clashes, conflict}
+use Rattle.rules.specs.Meeting.{wrote-reads, touched-same}
+use Rattle.rules.specs.Bools.{split, and-left, and-right, and-both, or-right, or-none-left, or-none-right, not-both, implies-false, and-false}
 use Rattle.rules.specs.Running.{not-ended, running-skip, running-end, runs-skip, touched-skip, touched-open, wrote-among}
 use Rattle.slot.specs.Places.{Place, free, taken, hasKey, runningValue, note, placeOf, openIn, amend, occupied}
 use Rattle.versions.specs.Versions.{at, later, thin}
@@ -48,7 +49,7 @@ pub record Agree (m : MapStore) (low : ℕ) (all : List Record) : Type 0 where
   pub eight : length (m .places) ≡ 8
   pub count : occupied (m .places) ≡ length (running all)
   pub values : (k t : ℕ) → 1 ≤ k → low ≤ t → versions.valueAt k t (m .versions) ≡ value Absent k t all
-  pub touches : (s k : ℕ) → low ≤ s → later s k (m .versions) ≡ touched all s k all
+  pub touches : (s k : ℕ) → low ≤ s → later s k (m .versions) ≡ touched all s (wrote k) all
   pub orders : ordered (m .last) (m .versions) ≡ true
 
 -- what the map needs to know of the history
@@ -64,12 +65,12 @@ effects-not k [] v h = refl
 effects-not k (r ∷ own) v h = rw (or-none-left (writes k r) (wrote k own) h, effects-not k own v (or-none-right (writes k r) (wrote k own) h))
 
 -- where no later commit wrote k, its value stands
-value-quiet : (v : Value) (k s t : ℕ) (w rs : List Record) → s ≤ t → ((n : ℕ) → wrote k (of n rs) ≡ true → wrote k (of n w) ≡ true) → touched w s k rs ≡ false
+value-quiet : (v : Value) (k s t : ℕ) (w rs : List Record) → s ≤ t → ((n : ℕ) → wrote k (of n rs) ≡ true → wrote k (of n w) ≡ true) → touched w s (wrote k) rs ≡ false
     → value v k s rs ≡ value v k t rs
 value-quiet v k s t w [] l sub h = refl
 value-quiet v k s t w (r ∷ rs) l sub h =
-    let i = value-quiet v k s t w rs l (λ n x. sub n (any-more (writes k) n r rs x)) (or-none-right (wroteAfter w s k r) (touched w s k rs) h) in
-    let a = or-none-left (wroteAfter w s k r) (touched w s k rs) h in
+    let i = value-quiet v k s t w rs l (λ n x. sub n (any-more (writes k) n r rs x)) (or-none-right (committedAfter w s (wrote k) r) (touched w s (wrote k) rs) h) in
+    let a = or-none-left (committedAfter w s (wrote k) r) (touched w s (wrote k) rs) h in
     split (isCommit r)
     (λ c.
     split (leb (r .time) s)
@@ -82,16 +83,34 @@ value-quiet v k s t w (r ∷ rs) l sub h =
     rw (c, x, i, effects-not k (of (r .transaction) rs) (value v k t rs) d) (split (leb (r .time) t) (λ z. rw z) (λ z. rw z))))
     (λ c. rw (c, i))
 
+-- rule 3.6 by the keys: who met a transaction on a key that it wrote, wrote it
+abbrev pub clashing : List Record → ℕ → Record → Bool
+clashing w s r = isUpdate r && touched w s (wrote (r .key)) w
+
+clashes-wrote : (w : List Record) (s : ℕ) (full own : List Record) → ((k : ℕ) → wrote k own ≡ true → wrote k full ≡ true)
+    → any (clashes w s full) own ≡ any (clashing w s) own
+clashes-wrote w s full [] sub = refl
+clashes-wrote w s full (r ∷ own) sub =
+    let i = clashes-wrote w s full own (λ k e. sub k (or-right (writes k r) (wrote k own) e)) in
+    split (isUpdate r)
+    (λ u.
+    let mine : wrote (r .key) full ≡ true = sub (r .key) (rw (u, eq-eqb (r .key) (r .key) refl)) in
+    rw (u, touched-same w s (metOn (r .key) full) (wrote (r .key)) (λ other. rw mine) w, i))
+    (λ u. rw (u, i))
+
+pub conflict-wrote : (n s : ℕ) (w : List Record) → conflict n s w ≡ any (clashing w s) (of n w)
+conflict-wrote n s w = clashes-wrote w s (of n w) (of n w) (λ k e. e)
+
 -- without a conflict, no key that was written was written by a later commit
-not-touched : (w : List Record) (s k : ℕ) (own : List Record) → any (clashes w s) own ≡ false → wrote k own ≡ true → touched w s k w ≡ false
+not-touched : (w : List Record) (s k : ℕ) (own : List Record) → any (clashing w s) own ≡ false → wrote k own ≡ true → touched w s (wrote k) w ≡ false
 not-touched w s k [] h e = absurd (false≢true e)
 not-touched w s k (r ∷ own) h e =
     split (writes k r)
     (λ x.
     let u = and-left (isUpdate r) (eqb (r .key) k) x in
     let q = eqb-true (r .key) k (and-right (isUpdate r) (eqb (r .key) k) x) in
-    rw (u, q) at (or-none-left (clashes w s r) (any (clashes w s) own) h))
-    (λ x. not-touched w s k own (or-none-right (clashes w s r) (any (clashes w s) own) h) (rw x at e))
+    rw (u, q) at (or-none-left (clashing w s r) (any (clashing w s) own) h))
+    (λ x. not-touched w s k own (or-none-right (clashing w s r) (any (clashing w s) own) h) (rw x at e))
 
 -- a place says the same where its transaction's records and its values at the snapshot are the same
 says-same : (all now : List Record) (n : ℕ) → of n now ≡ of n all
@@ -143,7 +162,7 @@ module _ (m : MapStore) (low : ℕ) (all : List Record) (h : Agree m low all) (g
         eight = rw (open-length n t (m .places)) (h .eight);
         count = rw (open-count n t (m .places) room, eq-eqb n n refl, f, running-skip (begun n t) refl all all, h .count);
         values = h .values;
-        touches = λ s k l. rw (touched-skip (begun n t) refl all s k all) (h .touches s k l);
+        touches = λ s k l. rw (touched-skip (begun n t) refl all s (wrote k) (wrote-reads k) all) (h .touches s k l);
         orders = h .orders;
       }
 
@@ -171,7 +190,7 @@ module _ (m : MapStore) (low : ℕ) (all : List Record) (h : Agree m low all) (g
           eight = rw (amend-length n free (m .places)) (h .eight);
           count = rw (running-end (aborted n) refl all all) (omega (arith, c .1, h .count, x));
           values = h .values;
-          touches = λ s k l. rw (touched-skip (aborted n) refl all s k all) (h .touches s k l);
+          touches = λ s k l. rw (touched-skip (aborted n) refl all s (wrote k) (wrote-reads k) all) (h .touches s k l);
           orders = h .orders;
         }
 
@@ -213,14 +232,14 @@ module _ (m : MapStore) (low : ℕ) (all : List Record) (h : Agree m low all) (g
                   (λ w.
                   let q : value Absent k (snapshot n all) all ≡ value Absent k a all =
                   value-quiet Absent k (snapshot n all) a all all (omega (arith, g .upto n u)) (λ j z. z)
-                  (not-touched all (snapshot n all) k (of n all) clear w)
+                  (not-touched all (snapshot n all) k (of n all) (sym (conflict-wrote n (snapshot n all) all) ∙ clear) w)
                   in
                   rw (y, has-first k rows (value Absent k a all) (hk k ∙ w), f k i w, q))
                   (λ w. rw (y, first-has k rows (hk k ∙ w), effects-not k (of n all) (value Absent k a all) w)))
                   (λ y. rw y));
               touches =
                   λ a k l.
-                  rw (later-stamp a k t rows (m .versions), h .touches a k l, touched-skip (committed n t) refl all a k all, eq-eqb n n refl, hk k);
+                  rw (later-stamp a k t rows (m .versions), h .touches a k l, touched-skip (committed n t) refl all a (wrote k) (wrote-reads k) all, eq-eqb n n refl, hk k);
               orders = ordered-stamp t (m .last) rows (m .versions) (h .orders) (omega arith);
             })
 
@@ -288,7 +307,7 @@ module _ (m : MapStore) (low : ℕ) (all : List Record) (h : Agree m low all) (g
               eight = rw (amend-length (r .transaction) q (m .places)) (h .eight);
               count = rw (hb, running-skip r he all all, a .1) (h .count);
               values = λ j t i l. rw hc (h .values j t i l);
-              touches = λ t j l. rw (hc, touched-open r all t j all (not-ended (of (r .transaction) all) runner)) (h .touches t j l);
+              touches = λ t j l. rw (hc, touched-open r all t (wrote j) all (not-ended (of (r .transaction) all) runner)) (h .touches t j l);
               orders = h .orders;
             }
 

@@ -35,7 +35,7 @@ use Rattle.history.specs.Sound.{Sound, sound-last}
 use Rattle.history.specs.Whole.{sound, lawful-allowed}
 use Rattle.history.specs.Maps.{mapRefused, mapDid, mapped}
 use Rattle.history.specs.MapPlaces.{has-among, holds-not, holds-none}
-use Rattle.history.specs.MapAgrees.{Says, idle, busy, Agree, Sane, agree-begin, agree-abort, agree-commit, current-is, agree-update, agree-checkpoint}
+use Rattle.history.specs.MapAgrees.{conflict-wrote, Says, idle, busy, Agree, Sane, agree-begin, agree-abort, agree-commit, current-is, agree-update, agree-checkpoint}
 use Rattle.map_store.specs.Meaning as map
 
 -- a key that passes
@@ -74,9 +74,10 @@ module _ (m : MapStore) (h : Store) (a : Agree m (h .low) (h .records)) (g : San
   clash-same n s rows u v keys =
       let z = snapshot n (h .records) in
       rw v
-      (clash-keys z rows (m .versions) (λ k. touched (h .records) z k (h .records)) (λ k. a .touches z k (g .from n u))
-      ∙ ap (anyOf (λ k. touched (h .records) z k (h .records))) keys
-      ∙ any-keys (λ k. touched (h .records) z k (h .records)) (of n (h .records)))
+      (clash-keys z rows (m .versions) (λ k. touched (h .records) z (wrote k) (h .records)) (λ k. a .touches z k (g .from n u))
+      ∙ ap (anyOf (λ k. touched (h .records) z (wrote k) (h .records))) keys
+      ∙ any-keys (λ k. touched (h .records) z (wrote k) (h .records)) (of n (h .records))
+      ∙ sym (conflict-wrote n z (h .records)))
 
   -- a snapshot, by its place
   snap-told : (T n : ℕ) (p : Place) → Says (h .records) n p → runs n (h .records) ≡ true

@@ -21,15 +21,19 @@ abbrev pub distinctKeys : List Change → List ℕ
 distinctKeys [] = []
 distinctKeys (c ∷ older) = cond (changes (c .key) older) (distinctKeys older) (c .key ∷ distinctKeys older)
 
--- a transaction that committed later than s changed k
-abbrev pub changedAfter : List Commitment → ℕ → ℕ → Bool
-changedAfter [] s k = false
-changedAfter (c ∷ older) s k = (ltb s (c .time) && changes k (c .changes)) || changedAfter older s k
+-- two transactions, by their changes, met on k: both changed it
+abbrev pub meet : ℕ → List Change → List Change → Bool
+meet k mine theirs = changes k mine && changes k theirs
 
--- rule 3.6: some key of these changes was changed by a transaction that committed later than s
-abbrev pub conflicts : List Commitment → ℕ → List Change → Bool
-conflicts cs s [] = false
-conflicts cs s (c ∷ older) = changedAfter cs s (c .key) || conflicts cs s older
+-- the changes of a transaction that committed later than s pass a test
+abbrev pub changedAfter : List Commitment → ℕ → (List Change → Bool) → Bool
+changedAfter [] s test = false
+changedAfter (c ∷ older) s test = (ltb s (c .time) && test (c .changes)) || changedAfter older s test
+
+-- rule 3.6: on the key of one of these changes a transaction that committed later than s met the one that made mine
+abbrev pub conflicts : List Commitment → ℕ → List Change → List Change → Bool
+conflicts cs s mine [] = false
+conflicts cs s mine (c ∷ older) = changedAfter cs s (meet (c .key) mine) || conflicts cs s mine older
 
 -- t is above a running snapshot
 abbrev pub holdsBack : ℕ → List Runner → Bool
@@ -55,8 +59,8 @@ refusalIn (Did (Update n k e)) h =
     unknownOr n h (cond (eqb k 0) 3 (cond (not (changes k mine || ltb (length (distinctKeys mine)) 32)) 8 0))
 refusalIn (Did (Abort n)) h = unknownOr n h 0
 refusalIn (Did (Commit n t)) h =
-    unknownOr n h
-    (cond (leb t (lastIn h)) 10 (cond (conflicts (h .commitments) (snapshotOf n (h .runners)) (changesOf n (h .runners))) 11 0))
+    let mine = changesOf n (h .runners) in
+    unknownOr n h (cond (leb t (lastIn h)) 10 (cond (conflicts (h .commitments) (snapshotOf n (h .runners)) mine mine) 11 0))
 refusalIn (Checkpointed t) h = timeRefused t h (cond (holdsBack t (h .runners)) 9 0)
 
 -- what an accepted call gives: begin its number, the others nothing

@@ -10,13 +10,14 @@ use Rattle.rules.specs.declared.Record.{Record}
 use Rattle.rules.specs.Kinds.{isUpdate, isCommit}
 use Rattle.rules.specs.Transactions.{any, of, runs, snapshot, wrote, keysWritten}
 use Rattle.rules.specs.Lists.{among}
-use Rattle.rules.specs.Conflicts.{touched, clashes}
+use Rattle.rules.specs.Conflicts.{metOn, touched, clashes}
+use Rattle.rules.specs.Meeting.{ReadsUpdates, test-skip, met-reads}
 use Rattle.rules.specs.Checkpoints.{held}
 use Rattle.rules.specs.Calls.{Store, lastOf, Begin, Update, Abort, Commit}
 use Rattle.rules.specs.Bools.{split, or-right, or-none, or-none-left, or-none-right, not-both}
-use Rattle.rules.specs.Running.{wrote-skip, touched-open}
-use Rattle.history.specs.History.{Runner, History, Deed, Did, Checkpointed, numbers, snapshotOf, changes}
-use Rattle.history.specs.Refusals.{anyOf, distinctKeys, changedAfter, conflicts, holdsBack, lastIn, refusalIn}
+use Rattle.rules.specs.Running.{touched-open}
+use Rattle.history.specs.History.{Change, Runner, History, Deed, Did, Checkpointed, numbers, snapshotOf, changes}
+use Rattle.history.specs.Refusals.{anyOf, distinctKeys, meet, changedAfter, conflicts, holdsBack, lastIn, refusalIn}
 use Rattle.history.specs.Good.{Good, none, more}
 use Rattle.history.specs.GoodLaws.{commit-writes, unended, begun-of}
 use Rattle.history.specs.KeptAlike.{not-held}
@@ -38,22 +39,32 @@ keys-told (r ∷ own) =
     (split (changes (r .key) (changesIn own)) (λ x. rw x) (λ x. rw x)))
     (λ u. rw (u, keys-told own))
 
--- which keys were written after s: nothing is written behind a commit by its transaction
-touched-told : (s k : ℕ) {low : ℕ} {rs : List Record} → Good low rs → touched rs s k rs ≡ changedAfter (commitmentsIn rs) s k
-touched-told s k none = refl
-touched-told s k (more {r = r} {older = rs} g st) =
-    let i = touched-open r rs s k rs (unended g st) ∙ touched-told s k g in
-    split (isCommit r)
-    (λ c. rw (c, wrote-skip r (commit-writes r c) k (r .transaction) rs, i, wrote-told k (of (r .transaction) rs)))
-    (λ c. rw (c, i))
+-- who committed after s: nothing is written behind a commit by its transaction
+module _ (s : ℕ) (test : List Record → Bool) (reads : ReadsUpdates test) (told : List Change → Bool) (same : (own : List Record) → test own ≡ told (changesIn own)) where
+  touched-told : {low : ℕ} {rs : List Record} → Good low rs → touched rs s test rs ≡ changedAfter (commitmentsIn rs) s told
+  touched-told none = refl
+  touched-told (more {r = r} {older = rs} g st) =
+      let i = touched-open r rs s test rs (unended g st) ∙ touched-told g in
+      split (isCommit r)
+      (λ c. rw (c, test-skip test reads r (commit-writes r c) (r .transaction) rs, i, same (of (r .transaction) rs)))
+      (λ c. rw (c, i))
 
-conflict-told : (s : ℕ) {low : ℕ} {rs : List Record} → Good low rs → (own : List Record)
-    → any (clashes rs s) own ≡ conflicts (commitmentsIn rs) s (changesIn own)
-conflict-told s g [] = refl
-conflict-told s g (r ∷ own) =
+-- whether two transactions met
+met-told : (k : ℕ) (mine own : List Record) → metOn k mine own ≡ meet k (changesIn mine) (changesIn own)
+met-told k mine own = rw (wrote-told k mine, wrote-told k own)
+
+conflict-told : (s : ℕ) {low : ℕ} {rs : List Record} → Good low rs → (mine own : List Record)
+    → any (clashes rs s mine) own ≡ conflicts (commitmentsIn rs) s (changesIn mine) (changesIn own)
+conflict-told s g mine [] = refl
+conflict-told s g mine (r ∷ own) =
     split (isUpdate r)
-    (λ u. rw (u, touched-told s (r .key) g, conflict-told s g own))
-    (λ u. rw (u, conflict-told s g own))
+    (λ u.
+    rw (
+      u,
+      touched-told s (metOn (r .key) mine) (met-reads (r .key) mine) (meet (r .key) (changesIn mine)) (met-told (r .key) mine) g,
+      conflict-told s g mine own,
+    ))
+    (λ u. rw (u, conflict-told s g mine own))
 
 -- a test of all numbers of a list
 any-none : (p : ℕ → Bool) (ns : List ℕ) → ((n : ℕ) → among n ns ≡ true → p n ≡ false) → anyOf p ns ≡ false
@@ -116,7 +127,7 @@ module _ (h : History) (s : Store) (w : Sound s) (t : Tells h s) where
         t .own n x,
         t .snaps n x,
         t .commits,
-        conflict-told (snapshot n (s .records)) (w .good) (of n (s .records)),
+        conflict-told (snapshot n (s .records)) (w .good) (of n (s .records)) (of n (s .records)),
       ))
       (λ x. rw (runner h s w t n, x))
   refused-told (Checkpointed u) = rw (last-same, ← t .lows, held-told u)

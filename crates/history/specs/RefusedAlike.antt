@@ -8,7 +8,8 @@ use Rattle.rules.specs.declared.Record.{Record}
 use Rattle.rules.specs.declared.Value.{Value}
 use Rattle.rules.specs.Kinds.{isBegin}
 use Rattle.rules.specs.Transactions.{any, of, runs, firstBegin, snapshot}
-use Rattle.rules.specs.Conflicts.{clashes, conflict}
+use Rattle.rules.specs.Conflicts.{metOn, clashes, conflict}
+use Rattle.rules.specs.Meeting.{met-reads}
 use Rattle.rules.specs.Checkpoints.{heldBy, held}
 use Rattle.rules.specs.Bools.{split, not-both}
 use Rattle.history.specs.Good.{Good}
@@ -35,8 +36,9 @@ module _ (low f fb : ℕ) (va vb : ℕ → Value) (a b : List Record) (h : Alike
   pub conflict-same : (n : ℕ) → runs n a ≡ true → conflict n (snapshot n a) a ≡ conflict n (snapshot n b) b
   conflict-same n u =
       let o : of n a ≡ of n b = h .own n u in
-      let l : low ≤ firstBegin (of n b) = rw o at (snapshot-within g n (begun-of n a u) .0) in
-      rw o (any-cong (clashes a (firstBegin (of n b))) (clashes b (firstBegin (of n b))) (of n b) (λ r. rw (h .touches (firstBegin (of n b)) (r .key) l)))
+      let s = firstBegin (of n b) in
+      let l : low ≤ s = rw o at (snapshot-within g n (begun-of n a u) .0) in
+      rw o (any-cong (clashes a s (of n b)) (clashes b s (of n b)) (of n b) (λ r. rw (h .touches s (metOn (r .key) (of n b)) (met-reads (r .key) (of n b)) l)))
 
   -- T is held in both or in none
   pub held-same : (T : ℕ) → held T a ≡ held T b

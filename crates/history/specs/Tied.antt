@@ -237,7 +237,7 @@ tied-start =
             run = λ n. refl;
             own = λ n u. refl;
             values = λ k t i l. refl;
-            touches = λ s k l. refl;
+            touches = λ s test q l. refl;
             freshA = λ n l. refl;
             freshB = λ n l. refl;
           };

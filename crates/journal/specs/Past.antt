@@ -1,6 +1,6 @@
 -- No commit is later than last, and nobody conflicts with a snapshot that no commit is later than. Assumes nothing.
 use mathlib.Core.Path.{_≡_, refl, sym, _∙_}
-use mathlib.Core.Bool.{true, false, false≢true}
+use mathlib.Core.Bool.{Bool, true, false, false≢true}
 use mathlib.Core.List.{List, [], _∷_}
 use Prim.Native.Nat.{ℕ, zero, suc, _*_, _<_, _≤_}
 use native.Mathlib.Nat.{le-max-left, le-max-right, max-le}
@@ -10,11 +10,11 @@ use lib.Dec.{eqb}
 use Rattle.rules.specs.declared.Record.{Record}
 use Rattle.rules.specs.Bools.{split, or-none-left, or-none-right}
 use Rattle.rules.specs.Kinds.{isUpdate, isCommit, recordBytes}
-use Rattle.rules.specs.Transactions.{any}
+use Rattle.rules.specs.Transactions.{any, of}
 use Rattle.rules.specs.Times.{last}
 use Rattle.rules.specs.Checkpoints.{late}
 use Rattle.record.specs.Bytes.{recordAt, newest}
-use Rattle.rules.specs.Conflicts.{wroteAfter, clashes}
+use Rattle.rules.specs.Conflicts.{metOn, touched, clashes, conflict}
 
 -- every commit of some records is at or before l
 pub data Past (l : ℕ) : List Record → Type 0 where
@@ -64,9 +64,9 @@ last-past low t (r ∷ rs) h e =
     rw c (max-le k z))
     (λ c. rw c k)
 
-module _ (whole : List Record) (s k : ℕ) where
-  -- no commit after s touched a key
-  untouched : {rs : List Record} → Past s rs → any (wroteAfter whole s k) rs ≡ false
+module _ (whole : List Record) (s : ℕ) (test : List Record → Bool) where
+  -- no commit is after s
+  untouched : {rs : List Record} → Past s rs → touched whole s test rs ≡ false
   untouched none = refl
   untouched (more r rs c p) =
       split (isCommit r)
@@ -74,9 +74,10 @@ module _ (whole : List Record) (s k : ℕ) where
       (λ e. rw e (untouched p))
 
 -- so nothing clashes
-pub no-clash : (s : ℕ) (rs xs : List Record) → Past s rs → any (clashes rs s) xs ≡ false
-no-clash s rs [] p = refl
-no-clash s rs (x ∷ xs) p = rw (untouched rs s (x .key) p) (split (isUpdate x) (λ e. rw e (no-clash s rs xs p)) (λ e. rw e (no-clash s rs xs p)))
+no-clash : (s : ℕ) (rs own xs : List Record) → Past s rs → any (clashes rs s own) xs ≡ false
+no-clash s rs own [] p = refl
+no-clash s rs own (x ∷ xs) p =
+    rw (untouched rs s (metOn (x .key) own) p) (split (isUpdate x) (λ e. rw e (no-clash s rs own xs p)) (λ e. rw e (no-clash s rs own xs p)))
 
-pub no-clash-since : (l s : ℕ) (rs xs : List Record) → l ≤ s → Past l rs → any (clashes rs s) xs ≡ false
-no-clash-since l s rs xs h p = no-clash s rs xs (later h p)
+pub no-conflict-since : (l s n : ℕ) (rs : List Record) → l ≤ s → Past l rs → conflict n s rs ≡ false
+no-conflict-since l s n rs h p = no-clash s rs (of n rs) (of n rs) (later h p)

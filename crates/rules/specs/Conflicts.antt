@@ -7,18 +7,22 @@ use Rattle.rules.specs.declared.Record.{Record}
 use Rattle.rules.specs.Kinds.{isUpdate, isCommit}
 use Rattle.rules.specs.Transactions.{any, of, wrote}
 
--- a commit record with a time later than s, of a transaction that wrote k anywhere in the whole journal
-abbrev pub wroteAfter : List Record → ℕ → ℕ → Record → Bool
-wroteAfter whole s k c = isCommit c && (ltb s (c .time) && wrote k (of (c .transaction) whole))
+-- two transactions, by their own records, met on k: both wrote it
+abbrev pub metOn : ℕ → List Record → List Record → Bool
+metOn k own other = wrote k own && wrote k other
+
+-- a commit record with a time later than s, of a transaction whose own records, anywhere in the whole journal, pass a test
+abbrev pub committedAfter : List Record → ℕ → (List Record → Bool) → Record → Bool
+committedAfter whole s test c = isCommit c && (ltb s (c .time) && test (of (c .transaction) whole))
 
 -- one of some commit records of the whole journal is such a one
-abbrev pub touched : List Record → ℕ → ℕ → List Record → Bool
-touched whole s k rs = any (wroteAfter whole s k) rs
+abbrev pub touched : List Record → ℕ → (List Record → Bool) → List Record → Bool
+touched whole s test rs = any (committedAfter whole s test) rs
 
--- an update record whose key a transaction that committed later than s wrote
-abbrev pub clashes : List Record → ℕ → Record → Bool
-clashes rs s r = isUpdate r && touched rs s (r .key) rs
+-- an update record on whose key a transaction that committed later than s met this one
+abbrev pub clashes : List Record → ℕ → List Record → Record → Bool
+clashes rs s own r = isUpdate r && touched rs s (metOn (r .key) own) rs
 
 -- a commit of transaction n with snapshot s conflicts
 abbrev pub conflict : ℕ → ℕ → List Record → Bool
-conflict n s rs = any (clashes rs s) (of n rs)
+conflict n s rs = any (clashes rs s (of n rs)) (of n rs)

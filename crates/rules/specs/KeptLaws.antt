@@ -1,7 +1,7 @@
 -- Whole transactions are kept: what the rules read in the records of those that a checkpoint or a recovery keeps. `K` says which numbers are kept, and
 -- begins are raised to T. Assumes nothing.
 use mathlib.Core.Path.{_≡_, refl, ap, sym, _∙_}
-use mathlib.Core.Bool.{Bool, true, false, cond, not, _&&_, _||_}
+use mathlib.Core.Bool.{Bool, true, false, cond, not, _&&_, _||_, false≢true}
 use mathlib.Core.List.{List, [], _∷_}
 use Prim.Native.Nat.{ℕ, suc, _≤_, max}
 use native.Mathlib.Omega.{arith}
@@ -10,10 +10,12 @@ use lib.ListN.{length}
 use borrow.Author.Tests.{eqb-true, eq-eqb}
 use Rattle.rules.specs.declared.Record.{Record}
 use Rattle.rules.specs.declared.Value.{Value}
-use Rattle.rules.specs.Kinds.{isBegin, isEnd}
+use Rattle.rules.specs.Kinds.{isBegin, isUpdate, isEnd}
 use Rattle.rules.specs.Effects.{effects}
 use Rattle.rules.specs.Transactions.{any, of, stillOpen, runs, firstBegin, wrote, keysWritten, opens, runningIn}
 use Rattle.rules.specs.Times.{above}
+use Rattle.rules.specs.Conflicts.{metOn}
+use Rattle.rules.specs.Meeting.{updatesOf, wrote-reads}
 use Rattle.rules.specs.Checkpoints.{raise, sift}
 use Rattle.rules.specs.Bools.{split, and-left, and-right, and-both, or-left, or-right, or-none, not-both, implies-false, and-false}
 
@@ -35,6 +37,21 @@ module _ (T : ℕ) where
   pub raised-end : (own : List Record) → any isEnd (raised T own) ≡ any isEnd own
   raised-end [] = refl
   raised-end (r ∷ own) = rw (raised-end own)
+
+  -- an update is no begin, and stays as it is
+  raise-update : (r : Record) → isUpdate r ≡ true → raise T r ≡ r
+  raise-update r u =
+      split (isBegin r)
+      (λ b. absurd (false≢true (rw (eqb-true (r .kind) 1 b) at u)))
+      (λ b. rw b)
+
+  pub raised-updates : (own : List Record) → updatesOf (raised T own) ≡ updatesOf own
+  raised-updates [] = refl
+  raised-updates (r ∷ own) = split (isUpdate r) (λ u. rw (u, raise-update r u, raised-updates own)) (λ u. rw (u, raised-updates own))
+
+  -- raised begins change nothing in whom a transaction met
+  pub met-raised : (k : ℕ) (own other : List Record) → metOn k (raised T own) other ≡ metOn k own other
+  met-raised k own other = ap (λ (w : Bool). w && wrote k other) (wrote-reads k (raised T own) own (raised-updates own))
 
   pub raised-wrote : (k : ℕ) (own : List Record) → wrote k (raised T own) ≡ wrote k own
   raised-wrote k [] = refl

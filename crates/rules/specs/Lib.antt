@@ -11,6 +11,7 @@ pub mod Recovery
 pub mod Calls
 pub mod Bools
 pub mod Passed
+pub mod Meeting
 pub mod Running
 pub mod Listing
 pub mod Columns

@@ -1,6 +1,6 @@
 -- What one record more changes in rule 3.2's readings of a journal: which transactions run, and what they wrote. Assumes nothing.
 use mathlib.Core.Path.{_≡_, refl, sym, _∙_}
-use mathlib.Core.Bool.{true, false, cond, not, _&&_, _||_}
+use mathlib.Core.Bool.{Bool, true, false, cond, not, _&&_, _||_}
 use mathlib.Core.List.{List, [], _∷_}
 use Prim.Native.Nat.{ℕ, _<_, _≤_}
 use lib.Dec.{eqb, leb}
@@ -12,6 +12,7 @@ use Rattle.rules.specs.Transactions.{any, of, stillOpen, wrote, keysWrit
 use Rattle.rules.specs.Times.{above}
 use Rattle.rules.specs.Lists.{among}
 use Rattle.rules.specs.Conflicts.{touched}
+use Rattle.rules.specs.Meeting.{ReadsUpdates, test-skip}
 
 -- the numbers but one
 abbrev pub without : ℕ → List ℕ → List ℕ
@@ -48,24 +49,25 @@ module _ (r : Record) where
   pub wrote-skip : isUpdate r ≡ false → (k m : ℕ) (rs : List Record) → wrote k (of m (r ∷ rs)) ≡ wrote k (of m rs)
   wrote-skip h k m rs = split (eqb (r .transaction) m) (λ q. rw (q, h)) (λ q. rw q)
 
-  pub touched-skip : isUpdate r ≡ false → (whole : List Record) (s k : ℕ) (rs : List Record) → touched (r ∷ whole) s k rs ≡ touched whole s k rs
-  touched-skip h whole s k [] = refl
-  touched-skip h whole s k (x ∷ rs) = rw (wrote-skip h k (x .transaction) whole, touched-skip h whole s k rs)
+  pub touched-skip : isUpdate r ≡ false → (whole : List Record) (s : ℕ) (test : List Record → Bool) → ReadsUpdates test → (rs : List Record)
+      → touched (r ∷ whole) s test rs ≡ touched whole s test rs
+  touched-skip h whole s test reads [] = refl
+  touched-skip h whole s test reads (x ∷ rs) = rw (test-skip test reads r h (x .transaction) whole, touched-skip h whole s test reads rs)
 
   -- an update of a transaction without an end changes nothing for the commits of others
-  pub touched-open : (whole : List Record) (s k : ℕ) (rs : List Record) → any isEnd (of (r .transaction) rs) ≡ false
-      → touched (r ∷ whole) s k rs ≡ touched whole s k rs
-  touched-open whole s k [] h = refl
-  touched-open whole s k (x ∷ rs) h =
+  pub touched-open : (whole : List Record) (s : ℕ) (test : List Record → Bool) (rs : List Record) → any isEnd (of (r .transaction) rs) ≡ false
+      → touched (r ∷ whole) s test rs ≡ touched whole s test rs
+  touched-open whole s test [] h = refl
+  touched-open whole s test (x ∷ rs) h =
       split (eqb (x .transaction) (r .transaction))
       (λ e.
       let both : (isEnd x || any isEnd (of (r .transaction) rs)) ≡ false = rw e at h in
       let c : isCommit x ≡ false = or-none-left (isCommit x) (eqb (x .kind) 5) (or-none-left (isEnd x) (any isEnd (of (r .transaction) rs)) both) in
-      rw (c, touched-open whole s k rs (or-none-right (isEnd x) (any isEnd (of (r .transaction) rs)) both)))
+      rw (c, touched-open whole s test rs (or-none-right (isEnd x) (any isEnd (of (r .transaction) rs)) both)))
       (λ e.
       let rest : any isEnd (of (r .transaction) rs) ≡ false = rw e at h in
       let other : eqb (r .transaction) (x .transaction) ≡ false = eqb-sym (r .transaction) (x .transaction) ∙ e in
-      rw (other, touched-open whole s k rs rest))
+      rw (other, touched-open whole s test rs rest))
 
 -- a transaction without records does not run, so one that runs is below the next number
 pub below : (f n : ℕ) (rs : List Record) → ((m : ℕ) → above f rs ≤ m → of m rs ≡ []) → runs n rs ≡ true → n < above f rs

@@ -1,8 +1,7 @@
 -- `journal::conflicts::conflict` meets its contract: with a snapshot at last nobody conflicts. Assumes nothing.
 use mathlib.Core.Path.{sym}
-use Rattle.rules.specs.Transactions.{of}
 use Rattle.record.specs.Bytes.{newest}
-use Rattle.journal.specs.Past.{no-clash-since}
+use Rattle.journal.specs.Past.{no-conflict-since}
 use borrow.Author.Needs.{needs}
 use denote.Ref.{now}
 use Rattle.journal.proofs.conflicts.conflict.Statement.{statement}
@@ -12,8 +11,7 @@ returns : tie.Need-returns
 returns c =
     let s = c .before .before in
     let a = s .args in
-    let rs = newest (a .used) (now (a .journal)) in
-    sym (no-clash-since (a .last) (a .snapshot) rs (of (a .n) rs) (c .if1 .taken) (s .pre .2))
+    sym (no-conflict-since (a .last) (a .snapshot) (a .n) (newest (a .used) (now (a .journal))) (c .if1 .taken) (s .pre .2))
 
 conflict-since-requires : tie.Need-conflict-since-requires
 conflict-since-requires c κs = search needs
