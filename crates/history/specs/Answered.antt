@@ -16,12 +16,11 @@ use Rattle.history.specs.History.{Runner, Deed, Did, numbers, history, a
 use Rattle.history.specs.Refusals.{lastIn}
 use Rattle.history.specs.Course.{Course, lose, recovered}
 use Rattle.history.specs.Listed.{history-lists}
-use Rattle.history.specs.GoodLaws.{begun-of, snapshot-within}
 use Rattle.history.specs.Recovered.{survivors-none}
 use Rattle.history.specs.Replayed.{whole}
 use Rattle.history.specs.Told.{value-told, last-told}
 use Rattle.history.specs.Whole.{tells, read-told}
-use Rattle.history.specs.Tied.{Tied, tied-restart, now, good-now, low-now, next-above}
+use Rattle.history.specs.Tied.{Tied, tied-restart, now, low-now, from-now, value-now, next-above}
 use Rattle.history.specs.Room.{running-none}
 
 module _ (y : Course) (h : Tied y) where
@@ -40,7 +39,7 @@ module _ (y : Course) (h : Tied y) where
   running-same = now y h .runnings ∙ sym (tells (h .lawful) .runs-alike)
 
   pub value-same : (t k : ℕ) → 1 ≤ k → y .store .low ≤ t → valueOf k t (y .store) ≡ valueIn (history (y .deeds) .commitments) t k
-  value-same t k i l = now y h .values k t i l ∙ rw (tells (h .lawful) .commits) (value-told k t (whole (y .deeds) .records))
+  value-same t k i l = value-now y h k t i l ∙ rw (tells (h .lawful) .commits) (value-told k t (whole (y .deeds) .records))
 
   pub list-same : (t : ℕ) → y .store .low ≤ t → listOf t (y .store) ≡ listIn (history (y .deeds) .commitments) t
   list-same t l =
@@ -56,8 +55,8 @@ module _ (y : Course) (h : Tied y) where
       let b = whole (y .deeds) .records in
       let v : runs n b ≡ true = sym (now y h .run n) ∙ u in
       let o : of n (y .store .records) ≡ of n b = now y h .own n u in
-      let l : y .store .low ≤ snapshot n b = rw o at (snapshot-within (good-now y h) n (begun-of n (y .store .records) u) .0) in
-      rw (o, now y h .values k (snapshot n b) i l) (read-told (h .lawful) n k v)
+      let l : y .store .low ≤ snapshot n b = rw o at (from-now y h n u) in
+      rw (o, value-now y h k (snapshot n b) i l) (read-told (h .lawful) n k v)
 
 -- aborts change no committed transaction, and not low
 aborting-commitments : (ns : List ℕ) (ds : List Deed) → history (aborting ns ds) .commitments ≡ history ds .commitments

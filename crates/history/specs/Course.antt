@@ -19,3 +19,7 @@ lose lost s = record { low = s .low; floor = s .floor; base = s .base; records =
 -- section 5: floor is the next number before dropping, records of transactions without a commit are dropped
 abbrev pub recovered : Store → Store
 recovered s = record { low = s .low; floor = nextOf s; base = s .base; records = survivors (s .records) }
+
+-- the low that recovery's walk goes by, which the invariant of a sequence keeps apart from the low that answers go by
+abbrev pub walkLow : Store → ℕ
+walkLow s = s .low

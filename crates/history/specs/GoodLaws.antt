@@ -97,6 +97,20 @@ begun-of n rs u = and-left (any isBegin (of n rs)) (not (any isEnd (of n rs))) u
 pub last-more : (low : ℕ) (r : Record) (rs : List Record) → last low rs ≤ last low (r ∷ rs)
 last-more low r rs = split (isCommit r) (λ c. rw c (omega arith)) (λ c. rw c (omega arith))
 
+-- a step for a lower low, where last is the same
+pub step-lower : {walked low : ℕ} {older : List Record} {r : Record} → walked ≤ low → last walked older ≡ last low older → Step low older r → Step walked older r
+step-lower l e s =
+    record {
+      form = s .form;
+      opens =
+          λ b.
+          let o = s .opens b in
+          record { fresh = o .fresh; ranged = o .ranged; from = omega (arith, o .from); upto = omega (arith, o .upto, e); few = o .few };
+      goes-on = s .goes-on;
+      writes = s .writes;
+      settles = λ c. record { later = omega (arith, s .settles c .later, e); clear = s .settles c .clear };
+    }
+
 -- snapshots are at least low, and at most last
 pub snapshot-within : {low : ℕ} {rs : List Record} → Good low rs → (n : ℕ) → any isBegin (of n rs) ≡ true
     → (low ≤ snapshot n rs) × (snapshot n rs ≤ last low rs)

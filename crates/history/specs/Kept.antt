@@ -6,20 +6,19 @@ use Prim.Native.Nat.{ℕ, _≤_, max}
 use native.Mathlib.Omega.{arith}
 use native.Mathlib.Nat.{le-trans}
 use lib.Dec.{ltb}
-use borrow.Author.Tests.{ltb-true, ltb-false, le-leb, lt-leb, lt-ltb, le-ltb}
+use borrow.Author.Tests.{ltb-true, ltb-false, lt-ltb, le-ltb}
 use Rattle.rules.specs.declared.Record.{Record}
-use Rattle.rules.specs.declared.Value.{Value}
 use Rattle.rules.specs.Kinds.{isBegin, isUpdate, isCommit}
 use Rattle.rules.specs.Transactions.{any, of, runs, firstBegin, snapshot, running, mayWrite}
 use Rattle.rules.specs.Times.{last}
-use Rattle.rules.specs.Values.{value}
 use Rattle.rules.specs.Conflicts.{metOn, committedAfter, touched, clashes, conflict}
 use Rattle.rules.specs.Meeting.{ReadsUpdates, met-reads, touched-same}
 use Rattle.rules.specs.Checkpoints.{raise, sift}
 use Rattle.rules.specs.Bools.{split, and-left, and-right, and-both, or-left, or-right, implies-false, and-false}
-use Rattle.rules.specs.KeptLaws.{raised, of-kept, above-sift, kept-fewer, running-sift, raised-begin, raised-end, raised-updates, met-raised, raised-wrote, raised-keys, raised-effects, raised-snapshot}
+use Rattle.rules.specs.KeptLaws.{raised, of-kept, above-sift, kept-fewer, running-sift, raised-begin, raised-end, raised-updates, met-raised, raised-wrote, raised-keys, raised-snapshot}
+use Rattle.journal.specs.Past.{low-last}
 use Rattle.history.specs.Good.{Step, Good, none, more}
-use Rattle.history.specs.GoodLaws.{commit-begins, begun-of, last-more}
+use Rattle.history.specs.GoodLaws.{commit-begins, begun-of}
 
 -- the commits kept are those after T
 pub data Fitting (K : ℕ → Bool) (T : ℕ) : List Record → Type 0 where
@@ -46,16 +45,16 @@ touched-later whole s u test (c ∷ rs) l h =
     (λ e. or-right (committedAfter whole s test c) (touched whole s test rs) (touched-later whole s u test rs l (rw e at h)))
 
 module _ (K : ℕ → Bool) (T : ℕ) where
-  -- last becomes T where it was below
-  pub last-sift : (low : ℕ) {rs : List Record} → low ≤ T → Fitting K T rs → last T (sift K T rs) ≡ max T (last low rs)
-  last-sift low l fit-none = omega arith
-  last-sift low l (fit-more {r = r} p f) =
+  -- last stays where low is not below T
+  pub last-sift : (low : ℕ) {rs : List Record} → T ≤ low → Fitting K T rs → last low (sift K T rs) ≡ last low rs
+  last-sift low l fit-none = refl
+  last-sift low l (fit-more {r = r} {rs = rs} p f) =
       let i = last-sift low l f in
       split (isCommit r)
       (λ c.
       split (ltb T (r .time))
-      (λ x. rw (p c, x, c, commit-begins r c, i) (omega arith))
-      (λ x. let y = ltb-false T (r .time) x in rw (p c, x, c, i) (omega arith)))
+      (λ x. rw (p c, x, c, commit-begins r c, i))
+      (λ x. let y = ltb-false T (r .time) x in rw (p c, x, c, i) (omega (arith, low-last low rs))))
       (λ c. split (K (r .transaction)) (λ x. rw (x, c, i)) (λ x. rw (x, c, i)))
 
   -- after T the same transactions committed, with the same updates
@@ -121,7 +120,7 @@ module _ (K : ℕ → Bool) (T : ℕ) where
               fresh = le-trans (above-sift T K 1 1 rs (omega arith)) (o .fresh);
               ranged = o .ranged;
               from = rw b (omega arith);
-              upto = rw (b, last-sift low l f) (omega (arith, o .upto));
+              upto = rw (b, last-sift T (omega arith) f, last-low low T rs l) (omega (arith, o .upto));
               few = rw (running-sift T K rs rs) (omega (arith, o .few, kept-fewer T K (running rs)));
             };
         goes-on = λ b. runs-kept (r .transaction) rs x (s .goes-on b);
@@ -131,7 +130,7 @@ module _ (K : ℕ → Bool) (T : ℕ) where
             let b = commit-begins r c in
             let y = ltb-true T (r .time) (sym (p c) ∙ x) in
             record {
-              later = rw (b, last-sift low l f) (omega (arith, s .settles c .later));
+              later = rw (b, last-sift T (omega arith) f, last-low low T rs l) (omega (arith, s .settles c .later));
               clear = conflict-sift (r .transaction) rs f x (begun-of (r .transaction) rs (s .goes-on b)) (s .settles c .clear);
             };
       }
@@ -142,42 +141,3 @@ module _ (K : ℕ → Bool) (T : ℕ) where
   good-sift l (more {r = r} g s) (fit-more p f) =
       let i = good-sift l g f in
       split (K (r .transaction)) (λ x. rw x (more i (step-sift l (fit-more p f) x s))) (λ x. rw x i)
-
-  -- no commit is kept of those that stand at or before T
-  value-none : (v : Value) (k t low : ℕ) {rs : List Record} → last low rs ≤ T → Fitting K T rs → value v k t (sift K T rs) ≡ v
-  value-none v k t low l fit-none = refl
-  value-none v k t low l (fit-more {r = r} {rs = rs} p f) =
-      let i = value-none v k t low (omega (arith, last-more low r rs)) f in
-      split (isCommit r)
-      (λ c. let m : max (last low rs) (r .time) ≤ T = rw c at l in rw (p c, le-ltb T (r .time) (omega arith)) i)
-      (λ c. split (K (r .transaction)) (λ x. rw (x, c) i) (λ x. rw x i))
-
-  -- from last on a value stands
-  value-stands : (v : Value) (k t low : ℕ) (rs : List Record) → last low rs ≤ T → T ≤ t → value v k T rs ≡ value v k t rs
-  value-stands v k t low [] l m = refl
-  value-stands v k t low (r ∷ rs) l m =
-      split (isCommit r)
-      (λ c.
-      let l2 : max (last low rs) (r .time) ≤ T = rw c at l in
-      rw (c, le-leb (r .time) T (omega arith), le-leb (r .time) t (omega arith), value-stands v k t low rs (omega arith) m))
-      (λ c. rw (c, value-stands v k t low rs (rw c at l) m))
-
-  -- from T on, the kept commits over the values at T give the values
-  pub value-sift : (v w : Value) (k t : ℕ) {low : ℕ} {rs : List Record} → T ≤ t → Good low rs → Fitting K T rs → w ≡ value v k T rs
-      → value w k t (sift K T rs) ≡ value v k t rs
-  value-sift v w k t m none fit-none e = e
-  value-sift v w k t {low} m (more {r = r} {older = rs} g s) (fit-more p f) e =
-      split (isCommit r)
-      (λ c.
-      let n : ℕ = r .transaction in
-      split (ltb T (r .time))
-      (λ x.
-      let y = ltb-true T (r .time) x in
-      let z : K n ≡ true = p c ∙ x in
-      let e2 : w ≡ value v k T rs = rw (c, lt-leb (r .time) T (omega arith)) at e in
-      rw (z, c, commit-begins r c, of-kept T K n z rs, raised-effects T k (of n rs), value-sift v w k t m g f e2))
-      (λ x.
-      let y = ltb-false T (r .time) x in
-      let z = s .settles c .later in
-      rw (p c, x, value-none w k t low (omega arith) f) (e ∙ value-stands v k t low (r ∷ rs) (rw c (omega arith)) m)))
-      (λ c. let i = value-sift v w k t m g f (rw c at e) in split (K (r .transaction)) (λ x. rw (x, c) i) (λ x. rw (x, c) i))

@@ -1,6 +1,6 @@
 -- Checkpoint and recovery keep whole transactions: two stores that answer alike go on to. Assumes nothing.
 use mathlib.Core.Path.{_≡_, refl, _∙_}
-use mathlib.Core.Bool.{Bool, true, false, not, false≢true}
+use mathlib.Core.Bool.{Bool, true, false, false≢true}
 use mathlib.Core.List.{List, [], _∷_}
 use Prim.Native.Nat.{ℕ, _<_, _≤_, max}
 use native.Mathlib.Omega.{arith}
@@ -10,17 +10,17 @@ use Rattle.rules.specs.declared.Record.{Record}
 use Rattle.rules.specs.declared.Value.{Value}
 use Rattle.rules.specs.Kinds.{isBegin, isCommit, isEnd}
 use Rattle.rules.specs.Transactions.{any, of, runs, snapshot}
-use Rattle.rules.specs.Times.{last, above}
-use Rattle.rules.specs.Values.{value}
+use Rattle.rules.specs.Times.{above}
 use Rattle.rules.specs.Checkpoints.{heldBy, held, late, stays, sift, kept}
 use Rattle.rules.specs.Recovery.{done}
-use Rattle.rules.specs.Bools.{split, and-left, or-left, or-none-left, or-none-right, not-both, and-false, or-false}
+use Rattle.rules.specs.Bools.{split, or-left, or-none-left, or-none-right, not-both, and-false, or-false}
 use Rattle.journal.specs.Past.{low-last}
 use Rattle.history.specs.Good.{Good, none, more}
-use Rattle.history.specs.GoodLaws.{good-known, fresh, unended}
+use Rattle.history.specs.GoodLaws.{good-known, fresh, unended, begun-of}
 use Rattle.history.specs.Alike.{Alike}
 use Rattle.rules.specs.KeptLaws.{raised, of-kept, above-onto, running-sift, kept-all, runs-sift, of-none}
-use Rattle.history.specs.Kept.{Fitting, fit-none, fit-more, last-low, last-sift, touched-sift, good-sift, value-sift}
+use Rattle.history.specs.Kept.{Fitting, fit-none, fit-more, last-low, last-sift, touched-sift, good-sift}
+use Rattle.history.specs.ValueSince.{valueSince, since-moved, since-sift}
 
 -- a commit is the only end of its transaction
 pub record Ending (low T : ℕ) (whole : List Record) (c : Record) : Type 0 where
@@ -110,15 +110,29 @@ not-held T n whole (r ∷ rs) b h u =
     (λ y. not-held T n whole rs (rw (x, y) at b) h2 u))
     (λ x. not-held T n whole rs (rw x at b) h2 u)
 
--- what is kept answers as before
-module _ (low fa fb : ℕ) (va vb : ℕ → Value) (a b : List Record) (h : Alike low fa fb va vb a b) (g : Good low a) where
-  -- for any choice of kept transactions that fits
-  pub alike-sift : (K : ℕ → Bool) (T : ℕ) (vc : ℕ → Value) → low ≤ T → T ≤ last low a → Fitting K T a → ((n : ℕ) → runs n a ≡ true → K n ≡ true)
-      → ((n : ℕ) → runs n a ≡ true → T ≤ snapshot n a) → ((k : ℕ) → 1 ≤ k → vc k ≡ value (va k) k T a)
-      → Alike T (above fa a) fb vc vb (sift K T a) b
-  alike-sift K T vc l m f keeps below vals =
+-- the journal is good for a low of its own, which the answers' low has left behind or not
+module _ (walked low fa fb : ℕ) (va vb : ℕ → Value) (a b : List Record) (h : Alike low fa fb va vb a b) (g : Good walked a) where
+  -- low and base move, the records stay: it answers as before from T on
+  pub alike-moved : (T : ℕ) (vc : ℕ → Value) → low ≤ T → ((k : ℕ) → 1 ≤ k → vc k ≡ valueSince low (va k) k T a) → Alike T fa fb vc vb a b
+  alike-moved T vc l vals =
       record {
-        lasts = rw (last-sift K T low l f, last-low low T b l, h .lasts);
+        lasts = rw (last-low low T a l, last-low low T b l, h .lasts);
+        aboves = h .aboves;
+        runnings = h .runnings;
+        run = h .run;
+        own = h .own;
+        values = λ k t i j. since-moved k t T low walked (va k) (vc k) l j g (vals k i) ∙ h .values k t i (omega arith);
+        touches = λ s test q j. h .touches s test q (omega arith);
+        freshA = h .freshA;
+        freshB = h .freshB;
+      }
+
+  -- records go, low and base stay: for any choice of kept transactions that fits some T up to low, what is kept answers as before
+  pub alike-sift : (K : ℕ → Bool) (T : ℕ) → T ≤ low → Fitting K T a → ((n : ℕ) → runs n a ≡ true → K n ≡ true)
+      → ((n : ℕ) → runs n a ≡ true → T ≤ snapshot n a) → Alike low (above fa a) fb va vb (sift K T a) b
+  alike-sift K T l f keeps below =
+      record {
+        lasts = last-sift K T low l f ∙ h .lasts;
         aboves = above-onto T K fa (above fa a) a (omega arith) ∙ h .aboves;
         runnings = running-sift T K a a ∙ kept-all T K a a (λ n x. x) keeps ∙ h .runnings;
         run = λ n. runs-sift T K n a (keeps n) ∙ h .run n;
@@ -126,19 +140,26 @@ module _ (low fa fb : ℕ) (va vb : ℕ → Value) (a b : List Record) (h : Alik
             λ n u.
             let v : runs n a ≡ true = rw (runs-sift T K n a (keeps n)) at u in
             of-kept T K n (keeps n v) a ∙ raised-not T n g (below n v) ∙ h .own n v;
-        values = λ k t i j. value-sift K T (va k) (vc k) k t j g f (vals k i) ∙ h .values k t i (omega arith);
-        touches = λ s test q j. touched-sift K T a s test q j f ∙ h .touches s test q (omega arith);
+        values = λ k t i j. since-sift k t T K low (va k) l f ∙ h .values k t i j;
+        touches = λ s test q j. touched-sift K T a s test q (omega arith) f ∙ h .touches s test q j;
         freshA = λ n i. of-none T K n a (h .freshA n (rw (above-onto T K fa (above fa a) a (omega arith)) at i));
         freshB = h .freshB;
       }
 
-  -- for what a checkpoint keeps
-  pub alike-checkpoint : (T : ℕ) (vc : ℕ → Value) → low ≤ T → T ≤ last low a → held T a ≡ false → ((k : ℕ) → 1 ≤ k → vc k ≡ value (va k) k T a)
-      → Alike T (above fa a) fb vc vb (kept T a) b
-  alike-checkpoint T vc l m n vals =
-      rw (good-known g)
-      (alike-sift (stays T a) T vc l m (fit-stays low T a (ends low T g)) (λ i u. or-left (runs i a) (any (late T) (of i a)) u)
-      (λ i u. not-held T i a a (and-left (any isBegin (of i a)) (not (any isEnd (of i a))) u) n u) vals)
+-- what a checkpoint at low keeps answers as before
+pub alike-kept : (walked low fa fb : ℕ) (va vb : ℕ → Value) (a b : List Record) → Alike low fa fb va vb a b → Good walked a → held low a ≡ false
+    → Alike low (above fa a) fb va vb (kept low a) b
+alike-kept walked low fa fb va vb a b h g n =
+    rw (good-known g)
+    (alike-sift walked low fa fb va vb a b h g (stays low a) low (omega arith) (fit-stays walked low a (ends walked low g))
+    (λ i u. or-left (runs i a) (any (late low) (of i a)) u) (λ i u. not-held low i a a (begun-of i a u) n u))
+
+-- a checkpoint at T is both at once
+pub alike-checkpoint : (low fa fb : ℕ) (va vb : ℕ → Value) (a b : List Record) → Alike low fa fb va vb a b → Good low a
+    → (T : ℕ) (vc : ℕ → Value) → low ≤ T → held T a ≡ false → ((k : ℕ) → 1 ≤ k → vc k ≡ valueSince low (va k) k T a)
+    → Alike T (above fa a) fb vc vb (kept T a) b
+alike-checkpoint low fa fb va vb a b h g T vc l n vals =
+    alike-kept low T fa fb vc vb a b (alike-moved low low fa fb va vb a b h g T vc l vals) g n
 
 -- what a checkpoint keeps is a good journal
 pub good-checkpoint : {low : ℕ} {a : List Record} → Good low a → (T : ℕ) → low ≤ T → Good T (kept T a)

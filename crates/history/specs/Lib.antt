@@ -20,8 +20,9 @@ pub mod Course
 pub mod Good
 pub mod GoodLaws
 pub mod Judged
-pub mod Alike
 pub mod Kept
+pub mod ValueSince
+pub mod Alike
 pub mod KeptAlike
 pub mod RefusedAlike
 pub mod RecoveredAlike

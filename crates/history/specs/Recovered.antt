@@ -1,5 +1,5 @@
 -- What recovery leaves of any journal: nothing runs in it, recovering it again changes nothing, and where the walk accepts the journal, it has the same
--- last and the same values from low on. Assumes nothing.
+-- last and the same values. Assumes nothing.
 use mathlib.Core.Path.{_≡_, refl, ap, sym, _∙_}
 use mathlib.Core.Bool.{Bool, true, false}
 use mathlib.Core.List.{List, [], _∷_}
@@ -16,13 +16,13 @@ use Rattle.rules.specs.Values.{value}
 use Rattle.rules.specs.Recovery.{accepts, done, only, survivors}
 use Rattle.rules.specs.Calls.{Store, nextOf}
 use Rattle.rules.specs.Bools.{split, or-right, not-both, and-false}
-use Rattle.journal.specs.Past.{low-last}
 use Rattle.history.specs.Course.{recovered}
 use Rattle.history.specs.Good.{Good}
 use Rattle.history.specs.Judged.{good-accepts, accepts-good}
-use Rattle.history.specs.Kept.{Fitting, last-sift, value-sift}
+use Rattle.history.specs.Kept.{Fitting, last-sift}
+use Rattle.history.specs.ValueSince.{since-all, since-sift}
 use Rattle.history.specs.KeptAlike.{ends, fit-done}
-use Rattle.history.specs.RecoveredAlike.{sift-low, value-low, good-recover}
+use Rattle.history.specs.RecoveredAlike.{sift-low, good-recover}
 use Rattle.history.specs.GoodLaws.{above-least}
 
 module _ (K : ℕ → Bool) where
@@ -95,8 +95,11 @@ module _ (low : ℕ) (rs : List Record) (h : accepts low rs ≡ true) where
 
   -- last stays
   pub survivors-last : last low (survivors rs) ≡ last low rs
-  survivors-last = rw (← sift-low (done rs) good, last-sift (done rs) low low (omega arith) fit) (omega (arith, low-last low rs))
+  survivors-last = rw (← sift-low (done rs) good) (last-sift (done rs) low low (omega arith) fit)
 
-  -- values stay from low on
-  pub survivors-value : (v : Value) (k t : ℕ) → low ≤ t → value v k t (survivors rs) ≡ value v k t rs
-  survivors-value v k t l = rw (← sift-low (done rs) good) (value-sift (done rs) low v v k t l good fit (sym (value-low v k good)))
+  -- values stay
+  pub survivors-value : (v : Value) (k t : ℕ) → value v k t (survivors rs) ≡ value v k t rs
+  survivors-value v k t =
+      sym (since-all k t low v (good-recover good))
+      ∙ rw (← sift-low (done rs) good) (since-sift k t low (done rs) low v (omega arith) fit)
+      ∙ since-all k t low v good

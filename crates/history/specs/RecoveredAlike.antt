@@ -1,23 +1,21 @@
 -- Recovery: what it keeps answers as the history in which the running transactions were aborted. Assumes nothing.
-use mathlib.Core.Path.{_≡_, refl, sym, _∙_}
+use mathlib.Core.Path.{_≡_, refl, _∙_}
 use mathlib.Core.Bool.{Bool, true, false, cond, false≢true}
 use mathlib.Core.List.{List, [], _∷_}
-use Prim.Native.Nat.{ℕ, max}
+use Prim.Native.Nat.{ℕ, _≤_, max}
 use native.Mathlib.Omega.{arith}
 use lib.Dec.{eqb}
-use borrow.Author.Tests.{ne-eqb, lt-leb}
+use borrow.Author.Tests.{ne-eqb}
 use Rattle.rules.specs.declared.Record.{Record}
 use Rattle.rules.specs.declared.Value.{Value}
 use Rattle.rules.specs.Kinds.{isBegin, isCommit, isEnd, aborted}
 use Rattle.rules.specs.Transactions.{any, of, runs, running}
 use Rattle.rules.specs.Times.{above}
-use Rattle.rules.specs.Values.{value}
 use Rattle.rules.specs.Lists.{among}
 use Rattle.rules.specs.Checkpoints.{sift}
 use Rattle.rules.specs.Recovery.{done, only}
 use Rattle.rules.specs.Bools.{split, or-none, or-none-left, or-none-right, not-both, implies-false, and-false}
 use Rattle.rules.specs.Running.{not-ended, running-runs}
-use Rattle.journal.specs.Past.{low-last}
 use Rattle.history.specs.Good.{Good, none, more, abort-step}
 use Rattle.history.specs.Alike.{Alike, alike-step}
 use Rattle.history.specs.Kept.{Fitting, fit-more, good-sift}
@@ -74,15 +72,6 @@ sift-low K {low} (more {r = r} g s) =
     (λ b. let z : max low (r .time) ≡ r .time = omega (arith, s .opens b .from) in rw (i, b, z))
     (λ b. rw (i, b))
 
--- at low the base's value stands
-pub value-low : (v : Value) (k : ℕ) {low : ℕ} {rs : List Record} → Good low rs → value v k low rs ≡ v
-value-low v k none = refl
-value-low v k {low} (more {r = r} {older = rs} g s) =
-    let i = value-low v k g in
-    split (isCommit r)
-    (λ c. rw (c, lt-leb (r .time) low (omega (arith, low-last low rs, s .settles c .later))) i)
-    (λ c. rw c i)
-
 -- the next number
 above-end : (f : ℕ) (ns : List ℕ) (rs : List Record) → above f (endAll ns rs) ≡ above f rs
 above-end f [] rs = refl
@@ -105,7 +94,7 @@ alike-end : (low fa fb : ℕ) (va vb : ℕ → Value) (ns : List ℕ) (a b : Lis
 alike-end low fa fb va vb [] a b h = h
 alike-end low fa fb va vb (n ∷ ns) a b h =
     split (runs n a)
-    (λ x. rw (x, ← h .run n, x) (alike-end low fa fb va vb ns (aborted n ∷ a) (aborted n ∷ b) (alike-step low fa fb va vb a b h (aborted n) (λ e. absurd (false≢true e)) (λ e. x))))
+    (λ x. rw (x, ← h .run n, x) (alike-end low fa fb va vb ns (aborted n ∷ a) (aborted n ∷ b) (alike-step low fa fb va vb a b h (aborted n) (λ e. absurd (false≢true e)) (λ e. x) (λ e. absurd (false≢true e)))))
     (λ x. rw (x, ← h .run n, x) (alike-end low fa fb va vb ns a b h))
 
 -- a transaction without an end has no commit
@@ -119,14 +108,14 @@ pub good-recover : {low : ℕ} {a : List Record} → Good low a → Good low (on
 good-recover {low} {a} g = rw (sift-low (done a) g) at (good-sift (done a) low (omega arith) g (fit-done low a (ends low low g)))
 
 -- and answers as the whole journal with the aborts
-pub alike-recover : (low fa fb : ℕ) (va vb : ℕ → Value) (a b : List Record) → Alike low fa fb va vb a b → Good low a
+pub alike-recover : (walked low fa fb : ℕ) (va vb : ℕ → Value) (a b : List Record) → walked ≤ low → Alike low fa fb va vb a b → Good walked a
     → Alike low (above fa a) fb va vb (only (done a) a) (endAll (running b) b)
-alike-recover low fa fb va vb a b h g =
+alike-recover walked low fa fb va vb a b l h g =
     let ns : List ℕ = running a in
     let a' : List Record = endAll ns a in
-    let g' : Good low a' = good-end ns g in
-    let e : sift (done a) low a' ≡ only (done a) a = sift-low (done a) g' ∙ only-end (done a) ns a (λ n u. not-done (of n a) (not-ended (of n a) u)) in
+    let g' : Good walked a' = good-end ns g in
+    let e : sift (done a) walked a' ≡ only (done a) a = sift-low (done a) g' ∙ only-end (done a) ns a (λ n u. not-done (of n a) (not-ended (of n a) u)) in
     rw (above-end fa ns a, e, h .runnings) at
-    (alike-sift low fa fb va vb a' (endAll ns b) (alike-end low fa fb va vb ns a b h) g' (done a) low va (omega arith) (low-last low a')
-    (fit-end (done a) low ns a (fit-done low a (ends low low g)))
-    (λ n u. not-both (runs n a') u (none-run n a)) (λ n u. not-both (runs n a') u (none-run n a)) (λ k i. sym (value-low (va k) k g')))
+    (alike-sift walked low fa fb va vb a' (endAll ns b) (alike-end low fa fb va vb ns a b h) g' (done a) walked l
+    (fit-end (done a) walked ns a (fit-done walked a (ends walked walked g)))
+    (λ n u. not-both (runs n a') u (none-run n a)) (λ n u. not-both (runs n a') u (none-run n a)))

@@ -12,8 +12,7 @@ use Rattle.rules.specs.Conflicts.{metOn, clashes, conflict}
 use Rattle.rules.specs.Meeting.{met-reads}
 use Rattle.rules.specs.Checkpoints.{heldBy, held}
 use Rattle.rules.specs.Bools.{split, not-both}
-use Rattle.history.specs.Good.{Good}
-use Rattle.history.specs.GoodLaws.{begun-of, snapshot-within}
+use Rattle.history.specs.GoodLaws.{begun-of}
 use Rattle.history.specs.Alike.{Alike}
 use Rattle.history.specs.KeptAlike.{not-held}
 
@@ -31,13 +30,13 @@ hold-none T whole (r ∷ rs) h =
     (λ x. split (isBegin r) (λ y. rw (x, y, le-ltb (snapshot (r .transaction) whole) T (h (r .transaction) x))) (λ y. rw y))
     (λ x. split (isBegin r) (λ y. rw (x, y)) (λ y. rw y)))
 
-module _ (low f fb : ℕ) (va vb : ℕ → Value) (a b : List Record) (h : Alike low f fb va vb a b) (g : Good low a) where
-  -- a commit conflicts in both or in none
-  pub conflict-same : (n : ℕ) → runs n a ≡ true → conflict n (snapshot n a) a ≡ conflict n (snapshot n b) b
-  conflict-same n u =
+module _ (low f fb : ℕ) (va vb : ℕ → Value) (a b : List Record) (h : Alike low f fb va vb a b) where
+  -- a commit whose snapshot is not below low conflicts in both or in none
+  pub conflict-same : (n : ℕ) → runs n a ≡ true → low ≤ snapshot n a → conflict n (snapshot n a) a ≡ conflict n (snapshot n b) b
+  conflict-same n u from =
       let o : of n a ≡ of n b = h .own n u in
       let s = firstBegin (of n b) in
-      let l : low ≤ s = rw o at (snapshot-within g n (begun-of n a u) .0) in
+      let l : low ≤ s = rw o at from in
       rw o (any-cong (clashes a s (of n b)) (clashes b s (of n b)) (of n b) (λ r. rw (h .touches s (metOn (r .key) (of n b)) (met-reads (r .key) (of n b)) l)))
 
   -- T is held in both or in none

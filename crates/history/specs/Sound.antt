@@ -1,5 +1,5 @@
 -- What deeds that the rules do not refuse make of the whole journal: a good one. Assumes nothing.
-use mathlib.Core.Path.{_≡_}
+use mathlib.Core.Path.{_≡_, sym}
 use mathlib.Core.Bool.{true}
 use mathlib.Core.List.{[]}
 use Prim.Native.Nat.{ℕ, _≤_}
@@ -14,7 +14,7 @@ use Rattle.rules.specs.Calls.{Store, lastOf, nextOf, recordOf, push}
 use Rattle.rules.specs.Bools.{split}
 use Rattle.history.specs.History.{Deed, Did, Checkpointed}
 use Rattle.history.specs.Good.{Step, Good, more}
-use Rattle.history.specs.GoodLaws.{above-top, fresh, begun-of, last-more}
+use Rattle.history.specs.GoodLaws.{above-top, fresh, begun-of, last-more, step-lower}
 use Rattle.history.specs.Kept.{last-low}
 use Rattle.history.specs.KeptAlike.{not-held}
 use Rattle.history.specs.Replayed.{replayed}
@@ -37,25 +37,11 @@ module _ (h : Store) (w : Sound h) where
   pub sound-next : nextOf h ≡ above 1 (h .records)
   sound-next = rw (w .one) (let z = above-top 1 (omega arith) (w .good) in omega arith)
 
-  -- and neither does what the walk finds
-  lower : {r : Record} → Step (h .low) (h .records) r → Step 0 (h .records) r
-  lower s =
-      record {
-        form = s .form;
-        opens =
-            λ b.
-            let o = s .opens b in
-            record { fresh = o .fresh; ranged = o .ranged; from = omega arith; upto = omega (arith, o .upto, sound-last); few = o .few };
-        goes-on = s .goes-on;
-        writes = s .writes;
-        settles = λ c. record { later = omega (arith, s .settles c .later, sound-last); clear = s .settles c .clear };
-      }
-
   -- one record more
   sound-step : (r : Record) → Step (h .low) (h .records) r → Sound (push r h)
   sound-step r s =
       record {
-        good = more (w .good) (lower s);
+        good = more (w .good) (step-lower (omega arith) (sym sound-last) s);
         within = omega (arith, w .within, last-more 0 r (h .records));
         from =
             λ m u.

@@ -10,68 +10,80 @@ use Rattle.rules.specs.declared.Record.{Record}
 use Rattle.rules.specs.declared.Value.{Value}
 use Rattle.rules.specs.declared.Value.the-variants.{Absent}
 use Rattle.rules.specs.Kinds.{isBegin}
-use Rattle.rules.specs.Transactions.{runs, running}
-use Rattle.rules.specs.Times.{above, next}
-use Rattle.rules.specs.Values.{rowValue}
+use Rattle.rules.specs.Transactions.{runs, snapshot, running}
+use Rattle.rules.specs.Times.{last, above, next}
+use Rattle.rules.specs.Values.{rowValue, value}
 use Rattle.rules.specs.Lists.{rising, listAt}
 use Rattle.rules.specs.Checkpoints.{kept}
 use Rattle.rules.specs.Recovery.{survivors}
-use Rattle.rules.specs.Calls.{Store, empty, nextOf, Call, Begin, Update, Abort, Commit, recordOf, refusal, checkpointRefusal, push, checkpointed}
+use Rattle.rules.specs.Calls.{Store, empty, lastOf, nextOf, valueOf, Call, Begin, Update, Abort, Commit, recordOf, refusal, checkpointRefusal, push, checkpointed}
 use Rattle.rules.specs.Bools.{split}
 use Rattle.rules.specs.Listing.{list-lists}
+use Rattle.journal.specs.Past.{low-last}
 use Rattle.history.specs.History.{Deed, Did, Checkpointed, numbers, history, restarted}
-use Rattle.history.specs.Course.{Course, lose, recovered}
+use Rattle.history.specs.Course.{Course, lose, recovered, walkLow}
 use Rattle.history.specs.Good.{Step, Good, none, more}
 use Rattle.history.specs.Alike.{Alike, alike-step}
+use Rattle.history.specs.Kept.{last-low}
+use Rattle.history.specs.ValueSince.{since-all}
 use Rattle.history.specs.KeptAlike.{alike-checkpoint, good-checkpoint}
 use Rattle.history.specs.RecoveredAlike.{good-recover, alike-recover}
 use Rattle.history.specs.RefusedAlike.{conflict-same, held-same}
-use Rattle.history.specs.GoodLaws.{above-mono, above-least, above-top}
+use Rattle.history.specs.GoodLaws.{above-mono, above-least, above-top, last-more, step-lower}
 use Rattle.history.specs.Replayed.{whole, whole-floor}
 use Rattle.history.specs.Allowed.{refused, Allowed, may-checkpoint, allowed}
 use Rattle.history.specs.Written.{begins-next, same-record, call-step}
 use Rattle.history.specs.Lawful.{Lawful, start, went, lawful-drop}
-use Rattle.history.specs.Whole.{tells, whole-refuses, lawful-aborting, whole-aborting, low-aborting}
+use Rattle.history.specs.Whole.{sound, tells, whole-refuses, lawful-aborting, whole-aborting, low-aborting}
 
 -- the records written since, and the deeds that wrote them: `i` of them
-pub data Since (low f : ℕ) (mark : List Record) (past : List Deed) : ℕ → List Record → List Deed → Type 0 where
-  marked : Since low f mark past 0 mark past
-  grown : {i : ℕ} {a : List Record} {ds : List Deed} (r : Record) (d : Deed) → Since low f mark past i a ds → Step low a r
-      → (isBegin r ≡ true → above f a ≤ r .transaction) → whole (d ∷ ds) ≡ push r (whole ds) → Since low f mark past (suc i) (r ∷ a) (d ∷ ds)
+pub data Since (walked f : ℕ) (mark : List Record) (past : List Deed) : ℕ → List Record → List Deed → Type 0 where
+  marked : Since walked f mark past 0 mark past
+  grown : {i : ℕ} {a : List Record} {ds : List Deed} (r : Record) (d : Deed) → Since walked f mark past i a ds → Step walked a r
+      → (isBegin r ≡ true → above f a ≤ r .transaction) → whole (d ∷ ds) ≡ push r (whole ds) → Since walked f mark past (suc i) (r ∷ a) (d ∷ ds)
 
-module _ (low f fb : ℕ) (va vb : ℕ → Value) where
-  -- two journals stay alike when the same steps are written in both
-  alike-since : {mark : List Record} {past : List Deed} {i : ℕ} {a : List Record} {ds : List Deed} → Alike low f fb va vb mark (whole past .records)
-      → Since low f mark past i a ds → Alike low f fb va vb a (whole ds .records)
-  alike-since h marked = h
-  alike-since h (grown {a = a} {ds = ds} r d s x p e) =
-      subst (λ (st : Store). Alike low f fb va vb (r ∷ a) (st .records)) (sym e) (alike-step low f fb va vb a (whole ds .records) (alike-since h s) r p (x .goes-on))
-
-module _ {low f : ℕ} {mark : List Record} {past : List Deed} where
+module _ {walked f : ℕ} {mark : List Record} {past : List Deed} where
   -- low stays
-  low-since : {i : ℕ} {a : List Record} {ds : List Deed} → whole past .low ≡ low → Since low f mark past i a ds → whole ds .low ≡ low
-  low-since h marked = h
-  low-since h (grown r d s x p e) = ap (λ (st : Store). st .low) e ∙ low-since h s
+  low-since : {i : ℕ} {a : List Record} {ds : List Deed} → Since walked f mark past i a ds → whole ds .low ≡ whole past .low
+  low-since marked = refl
+  low-since (grown r d s x p e) = ap (λ (st : Store). st .low) e ∙ low-since s
 
   -- the journal stays good
-  good-since : {i : ℕ} {a : List Record} {ds : List Deed} → Good low mark → Since low f mark past i a ds → Good low a
+  good-since : {i : ℕ} {a : List Record} {ds : List Deed} → Good walked mark → Since walked f mark past i a ds → Good walked a
   good-since g marked = g
   good-since g (grown r d s x p e) = more (good-since g s) x
 
+  -- last only rises
+  last-since : {i : ℕ} {a : List Record} {ds : List Deed} → Since walked f mark past i a ds → last walked mark ≤ last walked a
+  last-since marked = omega arith
+  last-since (grown {a = a} r d s x p e) = omega (arith, last-since s, last-more walked r a)
+
+  -- two journals stay alike when the same steps are written in both
+  alike-since : (low fb : ℕ) (va vb : ℕ → Value) {i : ℕ} {a : List Record} {ds : List Deed} → low ≤ last walked mark
+      → Alike low f fb va vb mark (whole past .records) → Since walked f mark past i a ds → Alike low f fb va vb a (whole ds .records)
+  alike-since low fb va vb l h marked = h
+  alike-since low fb va vb l h (grown {a = a} {ds = ds} r d s x p e) =
+      subst (λ (st : Store). Alike low f fb va vb (r ∷ a) (st .records)) (sym e)
+      (alike-step low f fb va vb a (whole ds .records) (alike-since low fb va vb l h s) r p (x .goes-on)
+      (λ c. omega (arith, x .settles c .later, last-since s)))
+
   -- a cut since the mark
-  since-lost : {i : ℕ} {a : List Record} {ds : List Deed} (x : ℕ) → x ≤ i → Since low f mark past i a ds
-      → (j : ℕ) × Since low f mark past j (drop x a) (drop x ds)
+  since-lost : {i : ℕ} {a : List Record} {ds : List Deed} (x : ℕ) → x ≤ i → Since walked f mark past i a ds
+      → (j : ℕ) × Since walked f mark past j (drop x a) (drop x ds)
   since-lost {i = i} zero l s = (i, s)
   since-lost (suc x) l marked = absurd (omega arith)
   since-lost (suc x) l (grown r d s y p e) = since-lost x (omega arith) s
 
--- the journal and the deeds as they stood at the mark, and what was done since
+-- the journal and the deeds as they stood at the mark, and what was done since; the walk's low is not above the answers' low (behind), and the
+-- commits that the walk reads have reached that (within)
 pub record Tied (y : Course) : Type 0 where
   pub mark : List Record
   pub past : List Deed
   pub alike : Alike (y .store .low) (y .store .floor) 1 (rowValue (y .store .base)) (λ k. Absent) mark (whole past .records)
-  pub good : Good (y .store .low) mark
-  pub since : Since (y .store .low) (y .store .floor) mark past (y .since) (y .store .records) (y .deeds)
+  pub good : Good (walkLow (y .store)) mark
+  pub since : Since (walkLow (y .store)) (y .store .floor) mark past (y .since) (y .store .records) (y .deeds)
+  pub behind : walkLow (y .store) ≤ y .store .low
+  pub within : y .store .low ≤ last (walkLow (y .store)) mark
   pub lows : whole past .low ≡ y .store .low
   pub floored : 1 ≤ y .store .floor
   pub capped : y .store .floor ≤ 4294967295
@@ -81,16 +93,16 @@ pub record Tied (y : Course) : Type 0 where
 -- the store after a cut of the newest x records, and the whole journal of the deeds that are left
 module _ (y : Course) (h : Tied y) (x : ℕ) (l : x ≤ y .since) where
   -- what is left is good
-  pub cut-good : Good (y .store .low) (drop x (y .store .records))
+  pub cut-good : Good (walkLow (y .store)) (drop x (y .store .records))
   cut-good = good-since (h .good) (since-lost x l (h .since) .1)
 
   -- and answers as the whole journal of the deeds that are left
   cut-alike : Alike (y .store .low) (y .store .floor) 1 (rowValue (y .store .base)) (λ k. Absent) (drop x (y .store .records)) (whole (drop x (y .deeds)) .records)
-  cut-alike = alike-since (y .store .low) (y .store .floor) 1 (rowValue (y .store .base)) (λ k. Absent) (h .alike) (since-lost x l (h .since) .1)
+  cut-alike = alike-since (y .store .low) 1 (rowValue (y .store .base)) (λ k. Absent) (h .within) (h .alike) (since-lost x l (h .since) .1)
 
   -- low
   cut-low : whole (drop x (y .deeds)) .low ≡ y .store .low
-  cut-low = low-since (h .lows) (since-lost x l (h .since) .1)
+  cut-low = low-since (since-lost x l (h .since) .1) ∙ h .lows
 
   -- the next number
   cut-next : next (y .store .floor) (drop x (y .store .records)) ≡ above (y .store .floor) (drop x (y .store .records))
@@ -110,9 +122,12 @@ module _ (y : Course) (h : Tied y) (x : ℕ) (l : x ≤ y .since) where
         past = restarted x (y .deeds);
         alike =
             rw (cut-next, whole-aborting ns left ok, e)
-            (alike-recover (y .store .low) f 1 (rowValue (y .store .base)) (λ k. Absent) a (whole left .records) cut-alike cut-good);
+            (alike-recover (walkLow (y .store)) (y .store .low) f 1 (rowValue (y .store .base)) (λ k. Absent) a (whole left .records) (h .behind)
+            cut-alike cut-good);
         good = good-recover cut-good;
         since = marked;
+        behind = h .behind;
+        within = low-last (y .store .low) (survivors a);
         lows = low-aborting ns left ∙ cut-low;
         floored = rw cut-next (omega (arith, h .floored, above-least f a));
         capped = omega arith;
@@ -126,12 +141,25 @@ module _ (y : Course) (h : Tied y) where
   now = cut-alike y h 0 (omega arith)
 
   -- its journal is good
-  pub good-now : Good (y .store .low) (y .store .records)
+  pub good-now : Good (walkLow (y .store)) (y .store .records)
   good-now = cut-good y h 0 (omega arith)
 
   -- low
   pub low-now : whole (y .deeds) .low ≡ y .store .low
   low-now = cut-low y h 0 (omega arith)
+
+  -- last is the same for the walk
+  last-now : last (walkLow (y .store)) (y .store .records) ≡ lastOf (y .store)
+  last-now =
+      rw (last-low (walkLow (y .store)) (y .store .low) (y .store .records) (h .behind)) (omega (arith, h .within, last-since (h .since)))
+
+  -- no running snapshot is below low
+  pub from-now : (n : ℕ) → runs n (y .store .records) ≡ true → y .store .low ≤ snapshot n (y .store .records)
+  from-now n u = rw (← low-now, now .own n u) (sound (h .lawful) .from n (sym (now .run n) ∙ u))
+
+  -- the store's values are the whole journal's
+  pub value-now : (k t : ℕ) → 1 ≤ k → y .store .low ≤ t → valueOf k t (y .store) ≡ value Absent k t (whole (y .deeds) .records)
+  value-now k t i l = sym (since-all k t (y .store .low) (rowValue (y .store .base) k) good-now) ∙ now .values k t i l
 
   -- the next number needs no cap
   pub next-above : nextOf (y .store) ≡ above (y .store .floor) (y .store .records)
@@ -156,18 +184,18 @@ module _ (y : Course) (h : Tied y) where
         low-now,
         now .lasts,
         conflict-same (y .store .low) (y .store .floor) 1 (rowValue (y .store .base)) (λ k. Absent) (y .store .records)
-            (whole (y .deeds) .records) now good-now n u,
+            (whole (y .deeds) .records) now n u (from-now n u),
       ))
       (λ u. rw (← now .run n, u))
   refused-alike (Checkpointed t) =
       rw (
         low-now,
         now .lasts,
-        held-same (y .store .low) (y .store .floor) 1 (rowValue (y .store .base)) (λ k. Absent) (y .store .records) (whole (y .deeds) .records) now good-now t,
+        held-same (y .store .low) (y .store .floor) 1 (rowValue (y .store .base)) (λ k. Absent) (y .store .records) (whole (y .deeds) .records) now t,
       )
 
   -- one record more
-  grow : (r : Record) (d : Deed) → refused d (y .store) ≡ 0 → Step (y .store .low) (y .store .records) r
+  grow : (r : Record) (d : Deed) → refused d (y .store) ≡ 0 → Step (walkLow (y .store)) (y .store .records) r
       → (isBegin r ≡ true → above (y .store .floor) (y .store .records) ≤ r .transaction) → whole (d ∷ y .deeds) ≡ push r (whole (y .deeds))
       → Tied (record { store = push r (y .store); deeds = d ∷ y .deeds; since = suc (y .since) })
   grow r d ok s p e =
@@ -177,6 +205,8 @@ module _ (y : Course) (h : Tied y) where
         alike = h .alike;
         good = h .good;
         since = grown r d (h .since) s p e;
+        behind = h .behind;
+        within = h .within;
         lows = h .lows;
         floored = h .floored;
         capped = h .capped;
@@ -189,7 +219,8 @@ module _ (y : Course) (h : Tied y) where
       → Tied (record { store = push (recordOf c (y .store)) (y .store); deeds = Did c ∷ y .deeds; since = suc (y .since) })
   tied-call c ok =
       let i = above-mono 1 (y .store .floor) (y .store .records) (h .floored) in
-      grow (recordOf c (y .store)) (Did c) ok (call-step (y .store) (omega (arith, next-above)) (allowed (y .store) (Did c) ok))
+      let s = call-step (y .store) (omega (arith, next-above)) (allowed (y .store) (Did c) ok) in
+      grow (recordOf c (y .store)) (Did c) ok (step-lower (h .behind) last-now s)
       (λ b. omega (arith, next-above, begins-next c (y .store) b))
       (ap (λ (r : Record). push r (whole (y .deeds))) (same-record c (whole (y .deeds)) (y .store) (sym next-whole)))
 
@@ -199,8 +230,9 @@ module _ (y : Course) (h : Tied y) where
   alike-checkpointed (may-checkpoint T l m n) =
       rw next-above
       (alike-checkpoint (y .store .low) (y .store .floor) 1 (rowValue (y .store .base)) (λ k. Absent) (y .store .records) (whole (y .deeds) .records) now
-      good-now T (rowValue (listAt (y .store .base) (y .store .records) T)) l m n
-      (list-lists (y .store .base) (y .store .records) T .values))
+      good-now T (rowValue (listAt (y .store .base) (y .store .records) T)) l n
+      (λ k i.
+      list-lists (y .store .base) (y .store .records) T .values k i ∙ sym (since-all k T (y .store .low) (rowValue (y .store .base) k) good-now)))
 
   -- an accepted checkpoint
   checkpoint-tied : {T : ℕ} → Allowed (y .store) (Checkpointed T) → refused (Checkpointed T) (y .store) ≡ 0
@@ -212,6 +244,8 @@ module _ (y : Course) (h : Tied y) where
         alike = alike-checkpointed (may-checkpoint T l m n);
         good = good-checkpoint good-now T l;
         since = marked;
+        behind = omega arith;
+        within = low-last T (kept T (y .store .records));
         lows = refl;
         floored = rw next-above (omega (arith, h .floored, above-least (y .store .floor) (y .store .records)));
         capped = omega arith;
@@ -243,6 +277,8 @@ tied-start =
           };
       good = none;
       since = marked;
+      behind = omega arith;
+      within = omega arith;
       lows = refl;
       floored = omega arith;
       capped = omega arith;
