@@ -5,6 +5,7 @@ use mathlib.Core.List.{List, [], _∷_}
 use Prim.Native.Nat.{ℕ, _+_}
 use lib.Dec.{eqb, leb, ltb}
 use lib.ListN.{length}
+use Rattle.rules.specs.Limits.{mostRunning, mostKeys, numbersEnd}
 use Rattle.rules.specs.Lists.{among}
 use Rattle.rules.specs.declared.Value.{Value}
 use Rattle.rules.specs.declared.Value.the-variants.{Absent, Present}
@@ -53,10 +54,10 @@ unknownOr n h others = cond (not (among n (numbers (h .runners)))) 2 others
 
 -- but for room
 abbrev pub refusalIn : Deed → History → ℕ
-refusalIn (Did (Begin t)) h = timeRefused t h (cond (leb 8 (length (h .runners))) 6 (cond (leb 4294967295 (h .next)) 7 0))
+refusalIn (Did (Begin t)) h = timeRefused t h (cond (leb mostRunning (length (h .runners))) 6 (cond (leb numbersEnd (h .next)) 7 0))
 refusalIn (Did (Update n k e)) h =
     let mine = changesOf n (h .runners) in
-    unknownOr n h (cond (eqb k 0) 3 (cond (not (changes k mine || ltb (length (distinctKeys mine)) 32)) 8 0))
+    unknownOr n h (cond (eqb k 0) 3 (cond (not (changes k mine || ltb (length (distinctKeys mine)) mostKeys)) 8 0))
 refusalIn (Did (Abort n)) h = unknownOr n h 0
 refusalIn (Did (Commit n t)) h =
     let mine = changesOf n (h .runners) in

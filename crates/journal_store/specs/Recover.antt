@@ -7,6 +7,7 @@ use native.Mathlib.Omega.{arith}
 use lib.Dec.{eqb, leb, ltb}
 use lib.ListN.{length, take}
 use borrow.Author.Tests.{leb-true}
+use Rattle.rules.specs.Limits.{mostRecords, mostRows}
 use Rattle.rules.specs.declared.Record.{Record}
 use Rattle.rules.specs.declared.Value.the-variants.{Absent, Present}
 use Rattle.rules.specs.declared.Walked.{Walked}
@@ -27,12 +28,12 @@ risingKeys m (k ∷ ks) = ltb m k && risingKeys k ks
 
 -- the most bytes that a journal has
 abbrev pub journalBytes : ℕ
-journalBytes = 49152
+journalBytes = mostRecords * recordBytes
 
 -- section 6, number 1, for recover: the used count is ignored, the surviving bytes are within limit and buffer, base keys strictly rise from 1
 abbrev pub isRecoverable : Head → List ℕ → ℕ → ℕ → ℕ → Bool
 isRecoverable h keys values bytes survived =
-    leb (h .base .rows) 512
+    leb (h .base .rows) mostRows
     && (leb (h .base .rows) (length keys)
     && (eqb (length keys) values
     && (leb survived journalBytes
@@ -71,13 +72,13 @@ pub record Recovered (h : Head) (keys values j : List ℕ) (survived : ℕ) (a :
 
 -- what a shape that can be recovered lends
 pub record Recoverable (bytes survived : ℕ) : Type 0 where
-  pub few : survived / recordBytes ≤ 2048
+  pub few : survived / recordBytes ≤ mostRecords
   pub there : survived / recordBytes * recordBytes ≤ survived
   pub within : survived ≤ bytes
 
 pub recoverable : (h : Head) (keys : List ℕ) (values bytes survived : ℕ) → isRecoverable h keys values bytes survived ≡ true → Recoverable bytes survived
 recoverable h keys values bytes survived e =
-    let a = leb (h .base .rows) 512 in
+    let a = leb (h .base .rows) mostRows in
     let b = leb (h .base .rows) (length keys) in
     let c = eqb (length keys) values in
     let d = leb survived journalBytes in

@@ -6,6 +6,7 @@ use Prim.Native.Nat.{ℕ, _+_, _*_, _/_, _≤_, min}
 use native.Mathlib.Omega.{arith}
 use lib.Dec.{eqb, leb}
 use borrow.Author.Tests.{leb-true, eqb-true, eqb-false, not-true}
+use Rattle.rules.specs.Limits.{mostRecords, mostRows}
 use Rattle.rules.specs.Bools.{and-left, and-right}
 use Rattle.rules.specs.Kinds.{recordBytes}
 use Rattle.rules.specs.Columns.{firstRows}
@@ -25,16 +26,16 @@ grown h = record { low = h .low; floor = h .floor; base = h .base; journal = rec
 -- section 6, number 1: base rows and used records within limit and room, paired columns of one length, floor not 0
 abbrev pub isShaped : Head → ℕ → ℕ → ℕ → Bool
 isShaped h keys values bytes =
-    leb (h .base .rows) 512
+    leb (h .base .rows) mostRows
     && (leb (h .base .rows) keys
-    && (eqb keys values && (leb (h .journal .used) 2048 && (leb (h .journal .used) (bytes / recordBytes) && not (eqb (h .floor) 0)))))
+    && (eqb keys values && (leb (h .journal .used) mostRecords && (leb (h .journal .used) (bytes / recordBytes) && not (eqb (h .floor) 0)))))
 
 -- how many records fit into so many bytes, and how many rows into columns of such a length
 abbrev pub roomOf : ℕ → ℕ
-roomOf bytes = min 2048 (bytes / recordBytes)
+roomOf bytes = min mostRecords (bytes / recordBytes)
 
 abbrev pub rowRoom : ℕ → ℕ
-rowRoom rows = min 512 rows
+rowRoom rows = min mostRows rows
 
 -- what the lent cells mean: the used rows of the base, and the used records of the journal, the newest first
 abbrev pub meaning : Head → List ℕ → List ℕ → List ℕ → Store
@@ -48,19 +49,19 @@ meaning h keys values journal =
 
 -- what a good shape says
 pub record Shaped (h : Head) (keys values bytes : ℕ) : Type 0 where
-  pub rowsLimit : h .base .rows ≤ 512
+  pub rowsLimit : h .base .rows ≤ mostRows
   pub rows : h .base .rows ≤ keys
   pub paired : keys ≡ values
-  pub usedLimit : h .journal .used ≤ 2048
+  pub usedLimit : h .journal .used ≤ mostRecords
   pub used : h .journal .used * recordBytes ≤ bytes
   pub floored : h .floor ≡ 0 → ⊥
 
 pub shape : (h : Head) (keys values bytes : ℕ) → isShaped h keys values bytes ≡ true → Shaped h keys values bytes
 shape h keys values bytes e =
-    let a = leb (h .base .rows) 512 in
+    let a = leb (h .base .rows) mostRows in
     let b = leb (h .base .rows) keys in
     let c = eqb keys values in
-    let d = leb (h .journal .used) 2048 in
+    let d = leb (h .journal .used) mostRecords in
     let f = leb (h .journal .used) (bytes / recordBytes) in
     let g = not (eqb (h .floor) 0) in
     let e1 = and-right a (b && (c && (d && (f && g)))) e in

@@ -5,11 +5,12 @@ use mathlib.Core.List.{List, [], _∷_}
 use Prim.Native.Nat.{ℕ, _+_}
 use lib.Dec.{eqb, leb, ltb}
 use lib.ListN.{length}
+use Rattle.rules.specs.Limits.{mostRunning, mostKeys, numbersEnd}
 use Rattle.rules.specs.declared.Value.{Value}
 use Rattle.rules.specs.declared.Value.the-variants.{Absent, Present}
 use Rattle.rules.specs.declared.Effect.{Effect}
 use Rattle.rules.specs.Effects.{orZero, applied}
-use Rattle.rules.specs.Calls.{Call, Begin, Update, Abort, Commit, withRoom}
+use Rattle.rules.specs.Calls.{Call, Begin, Update, Abort, Commit, timeTests, lookupTests, checkpointTests, withRoom}
 use Rattle.slot.specs.Places.{Note, Place, free, taken, hasKey, orElse, runningValue, note, placeOf, openIn, amend, occupied, holds}
 use Rattle.versions.specs.declared.Version.{Version}
 use Rattle.versions.specs.Versions.{valueAt, later, keptFrom, listAt}
@@ -61,9 +62,9 @@ gives (Update n k e) m = Absent
 gives (Abort n) m = Absent
 gives (Commit n t) m = Absent
 
--- a time below low is too old (4), one above last lies in the future (5)
+-- the tests of a time, as in the journal store
 abbrev pub timeRefusal : ℕ → MapStore → ℕ → ℕ
-timeRefusal t m others = cond (ltb t (m .low)) 4 (cond (ltb (m .last) t) 5 others)
+timeRefusal t m others = timeTests t (m .low) (m .last) others
 
 -- a transaction that does not run is unknown (2)
 abbrev pub abortRefusal : Place → ℕ
@@ -76,7 +77,7 @@ placeRefusal k (taken n s rows) = cond (eqb k 0) 3 0
 
 abbrev pub updateRefusal : ℕ → Place → ℕ
 updateRefusal k free = 2
-updateRefusal k (taken n s rows) = cond (eqb k 0) 3 (cond (hasKey k rows || ltb (length rows) 32) 0 8)
+updateRefusal k (taken n s rows) = cond (eqb k 0) 3 (cond (hasKey k rows || ltb (length rows) mostKeys) 0 8)
 
 abbrev pub commitRefusal : ℕ → MapStore → Place → ℕ
 commitRefusal t m free = 2
@@ -84,7 +85,7 @@ commitRefusal t m (taken n s rows) = cond (leb t (m .last)) 10 (cond (clash s ro
 
 -- section 6 but for shape and room, in the order of its tests
 abbrev pub mapRefusal : Call → MapStore → ℕ
-mapRefusal (Begin t) m = timeRefusal t m (cond (leb 8 (occupied (m .places))) 6 (cond (leb 4294967295 (m .next)) 7 0))
+mapRefusal (Begin t) m = timeRefusal t m (cond (leb mostRunning (occupied (m .places))) 6 (cond (leb numbersEnd (m .next)) 7 0))
 mapRefusal (Update n k e) m = updateRefusal k (placeOf n (m .places))
 mapRefusal (Abort n) m = abortRefusal (placeOf n (m .places))
 mapRefusal (Commit n t) m = commitRefusal t m (placeOf n (m .places))
@@ -93,13 +94,13 @@ abbrev pub readRefusal : ℕ → ℕ → MapStore → ℕ
 readRefusal n k m = placeRefusal k (placeOf n (m .places))
 
 abbrev pub lookupRefusal : ℕ → ℕ → MapStore → ℕ
-lookupRefusal k t m = cond (eqb k 0) 3 (timeRefusal t m 0)
+lookupRefusal k t m = lookupTests k t (m .low) (m .last)
 
 abbrev pub listRefusal : ℕ → MapStore → ℕ
 listRefusal t m = timeRefusal t m 0
 
 abbrev pub checkpointRefusal : ℕ → MapStore → ℕ
-checkpointRefusal t m = timeRefusal t m (cond (holds t (m .places)) 9 0)
+checkpointRefusal t m = checkpointTests t (m .low) (m .last) (holds t (m .places))
 
 -- the number that a call gets where so many version rows are lent: a commit alone needs room (12), a row for each key
 abbrev pub mapAnswer : ℕ → Call → MapStore → ℕ

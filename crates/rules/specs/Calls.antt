@@ -93,9 +93,20 @@ gives (Update n k e) s = Absent
 gives (Abort n) s = Absent
 gives (Commit n t) s = Absent
 
--- a time below low is too old (4), one above last lies in the future (5)
+-- What both stores test alike, by low and last: a time below low is too old (4), one above last lies in the future (5)
+abbrev pub timeTests : ℕ → ℕ → ℕ → ℕ → ℕ
+timeTests t low last others = cond (ltb t low) 4 (cond (ltb last t) 5 others)
+
+-- a lookup: key 0 is none (3), then the time
+abbrev pub lookupTests : ℕ → ℕ → ℕ → ℕ → ℕ
+lookupTests k t low last = cond (eqb k 0) 3 (timeTests t low last 0)
+
+-- a checkpoint: the time, then whether a running snapshot holds it (9)
+abbrev pub checkpointTests : ℕ → ℕ → ℕ → Bool → ℕ
+checkpointTests t low last isHeld = timeTests t low last (cond isHeld 9 0)
+
 abbrev pub timeRefusal : ℕ → Store → ℕ → ℕ
-timeRefusal t s others = cond (ltb t (s .low)) 4 (cond (ltb (lastOf s) t) 5 others)
+timeRefusal t s others = timeTests t (s .low) (lastOf s) others
 
 -- section 6 but for shape and room, in the order of its tests
 abbrev pub refusal : Call → Store → ℕ
@@ -110,13 +121,13 @@ abbrev pub readRefusal : ℕ → ℕ → Store → ℕ
 readRefusal n k s = cond (not (runsIn n s)) 2 (cond (eqb k 0) 3 0)
 
 abbrev pub lookupRefusal : ℕ → ℕ → Store → ℕ
-lookupRefusal k t s = cond (eqb k 0) 3 (timeRefusal t s 0)
+lookupRefusal k t s = lookupTests k t (s .low) (lastOf s)
 
 abbrev pub listRefusal : ℕ → Store → ℕ
 listRefusal t s = timeRefusal t s 0
 
 abbrev pub checkpointRefusal : ℕ → Store → ℕ
-checkpointRefusal t s = timeRefusal t s (cond (heldIn t s) 9 0)
+checkpointRefusal t s = checkpointTests t (s .low) (lastOf s) (heldIn t s)
 
 -- rule 3.11: how many free records a call needs
 abbrev pub need : Call → Store → ℕ
