@@ -55,6 +55,7 @@ module _ (low fa fb : ℕ) (va vb : ℕ → Value) (a b : List Record) (h : Alik
       (λ e. rw e (omega arith))
       (λ e. rw e (below fa (r .transaction) a (h .freshA) (goes-on e)))
 
+  -- the next number stays the same in both
   above-same : above fa (r ∷ a) ≡ above fb (r ∷ b)
   above-same = ap (aboveStep r) (h .aboves)
 

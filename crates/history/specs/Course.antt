@@ -1,8 +1,9 @@
 -- A point of a sequence, on what a journal store means, and what a restart makes of the store. Assumes nothing.
+use mathlib.Core.Bool.{Bool}
 use mathlib.Core.List.{List}
 use Prim.Native.Nat.{ℕ}
 use lib.ListN.{drop}
-use Rattle.rules.specs.Recovery.{survivors}
+use Rattle.rules.specs.Recovery.{done, only}
 use Rattle.rules.specs.Calls.{Store, nextOf}
 use Rattle.history.specs.History.{Deed}
 
@@ -16,9 +17,13 @@ pub record Course : Type 0 where
 abbrev pub lose : ℕ → Store → Store
 lose lost s = record { low = s .low; floor = s .floor; base = s .base; records = drop lost (s .records) }
 
--- section 5: floor is the next number before dropping, records of transactions without a commit are dropped
+-- section 5 for any choice of transactions that are kept: floor is the next number before the records of the others are dropped
+abbrev pub recoveredBy : (ℕ → Bool) → Store → Store
+recoveredBy keep s = record { low = s .low; floor = nextOf s; base = s .base; records = only keep (s .records) }
+
+-- section 5: transactions without a commit are dropped
 abbrev pub recovered : Store → Store
-recovered s = record { low = s .low; floor = nextOf s; base = s .base; records = survivors (s .records) }
+recovered s = recoveredBy (done (s .records)) s
 
 -- the low that recovery's walk goes by, which the invariant of a sequence keeps apart from the low that answers go by
 abbrev pub walkLow : Store → ℕ

@@ -106,9 +106,13 @@ abbrev pub aborting : List ℕ → List Deed → List Deed
 aborting [] ds = ds
 aborting (n ∷ ns) ds = aborting ns (cond (among n (numbers (history ds .runners))) (Did (Abort n) ∷ ds) ds)
 
--- a restart that loses the newest so many records: the calls that wrote them were never made, and what runs then is aborted
+-- a restart that loses the newest so many records: the calls that wrote them were never made, and these transactions are aborted
+abbrev pub restartedBy : List ℕ → ℕ → List Deed → List Deed
+restartedBy ns lost ds = aborting ns (drop lost ds)
+
+-- a restart that loses the newest so many records, and aborts all that runs then
 abbrev pub restarted : ℕ → List Deed → List Deed
-restarted lost ds = aborting (numbers (history (drop lost ds) .runners)) (drop lost ds)
+restarted lost ds = restartedBy (numbers (history (drop lost ds) .runners)) lost ds
 
 -- what some changes make of the value of k, in their order
 abbrev pub making : ℕ → List Change → Value → Value

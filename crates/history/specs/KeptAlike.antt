@@ -78,10 +78,12 @@ module _ (low T : ℕ) where
   fit-stays whole e-none = fit-none
   fit-stays whole (e-more {c = c} p e) = fit-more {r = c} (λ x. rw (p x .ended, and-false) (p x .lates)) (fit-stays whole e)
 
--- recovery keeps every commit
-pub fit-done : (low : ℕ) (whole : List Record) {rs : List Record} → Ends low low whole rs → Fitting (done whole) low rs
-fit-done low whole e-none = fit-none
-fit-done low whole (e-more {c = c} p e) = fit-more {r = c} (λ x. rw (p x .settled, lt-ltb low (c .time) (p x .above-low))) (fit-done low whole e)
+-- a choice that has every transaction with a commit keeps every commit
+pub fit-done : (low : ℕ) (K : ℕ → Bool) (whole : List Record) → ((n : ℕ) → done whole n ≡ true → K n ≡ true) → {rs : List Record} → Ends low low whole rs
+    → Fitting K low rs
+fit-done low K whole keeps e-none = fit-none
+fit-done low K whole keeps (e-more {c = c} p e) =
+    fit-more {r = c} (λ x. rw (keeps (c .transaction) (p x .settled), lt-ltb low (c .time) (p x .above-low))) (fit-done low K whole keeps e)
 
 -- the snapshots that T does not pass stay
 raised-not : (T n : ℕ) {low : ℕ} {rs : List Record} → Good low rs → T ≤ snapshot n rs → raised T (of n rs) ≡ of n rs

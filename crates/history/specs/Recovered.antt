@@ -1,7 +1,7 @@
 -- What recovery leaves of any journal: nothing runs in it, recovering it again changes nothing, and where the walk accepts the journal, it has the same
 -- last and the same values. Assumes nothing.
 use mathlib.Core.Path.{_≡_, refl, ap, sym, _∙_}
-use mathlib.Core.Bool.{Bool, true, false}
+use mathlib.Core.Bool.{Bool, true, false, _&&_}
 use mathlib.Core.List.{List, [], _∷_}
 use Prim.Native.Nat.{ℕ, _≤_, max}
 use native.Mathlib.Omega.{arith}
@@ -9,20 +9,16 @@ use lib.Dec.{eqb}
 use borrow.Author.Tests.{eqb-true, ne-eqb}
 use Rattle.rules.specs.declared.Record.{Record}
 use Rattle.rules.specs.declared.Value.{Value}
-use Rattle.rules.specs.Kinds.{isBegin, isCommit, isEnd}
-use Rattle.rules.specs.Transactions.{any, of, runs}
+use Rattle.rules.specs.Kinds.{isBegin}
+use Rattle.rules.specs.Transactions.{of, runs}
 use Rattle.rules.specs.Times.{last, above, next}
 use Rattle.rules.specs.Values.{value}
 use Rattle.rules.specs.Recovery.{accepts, done, only, survivors}
 use Rattle.rules.specs.Calls.{Store, nextOf}
-use Rattle.rules.specs.Bools.{split, or-right, not-both, and-false}
-use Rattle.history.specs.Course.{recovered}
-use Rattle.history.specs.Good.{Good}
+use Rattle.rules.specs.Bools.{split, not-both, and-false}
+use Rattle.history.specs.Course.{recoveredBy, recovered}
 use Rattle.history.specs.Judged.{good-accepts, accepts-good}
-use Rattle.history.specs.Kept.{Fitting, last-sift}
-use Rattle.history.specs.ValueSince.{since-all, since-sift}
-use Rattle.history.specs.KeptAlike.{ends, fit-done}
-use Rattle.history.specs.RecoveredAlike.{sift-low, good-recover}
+use Rattle.history.specs.RecoveredAlike.{committed-ends, good-recover, last-recover, value-recover}
 use Rattle.history.specs.GoodLaws.{above-least}
 
 module _ (K : ℕ → Bool) where
@@ -43,6 +39,10 @@ module _ (K : ℕ → Bool) where
       rw (f, ne-eqb (r .transaction) n (λ q. not-both (K n) (sym (ap K q) ∙ f) h), only-dropped n h rs))
       (λ f. rw (f, only-dropped n h rs))
 
+  -- what is kept runs as before, and nothing else does
+  only-runs : (n : ℕ) (rs : List Record) → runs n (only K rs) ≡ (K n && runs n rs)
+  only-runs n rs = split (K n) (λ e. rw (e, only-kept n e rs)) (λ e. rw (e, only-dropped n e rs))
+
   -- what is kept is kept again
   only-again : (J : ℕ → Bool) → ((n : ℕ) → K n ≡ true → J n ≡ true) → (rs : List Record) → only J (only K rs) ≡ only K rs
   only-again J h [] = refl
@@ -57,49 +57,35 @@ module _ (K : ℕ → Bool) where
       (λ b. split (K (r .transaction)) (λ e. rw (e, b) (omega arith)) (λ e. rw (e, b) (omega arith)))
       (λ b. split (K (r .transaction)) (λ e. rw (e, b) i) (λ e. rw (e, b) i))
 
--- a committed transaction has an end
-committed-ends : (own : List Record) → any isCommit own ≡ true → any isEnd own ≡ true
-committed-ends [] h = h
-committed-ends (r ∷ own) h =
-    split (isCommit r) (λ c. rw c) (λ c. or-right (isEnd r) (any isEnd own) (committed-ends own (rw c at h)))
-
--- nothing runs
+-- nothing runs where every kept transaction has a commit
 pub survivors-none : (rs : List Record) (n : ℕ) → runs n (survivors rs) ≡ false
 survivors-none rs n =
-    split (done rs n)
-    (λ e. rw (only-kept (done rs) n e rs, committed-ends (of n rs) e, and-false))
-    (λ e. rw (only-dropped (done rs) n e rs))
+    rw (only-runs (done rs) n rs) (split (done rs n) (λ e. rw (e, committed-ends (of n rs) e, and-false)) (λ e. rw e))
 
--- recovering again changes nothing
+-- recovering again changes nothing where what was kept is kept again
+pub kept-again : (K J : ℕ → Bool) → ((n : ℕ) → K n ≡ true → J n ≡ true) → (s : Store) → recoveredBy J (recoveredBy K s) ≡ recoveredBy K s
+kept-again K J h s =
+    let g : ℕ = nextOf s in
+    let rs : List Record = s .records in
+    let i : next g (only K rs) ≡ g = omega (arith, only-above K (s .floor) g rs, above-least g (only K rs)) in
+    rw (only-again K J h rs, i)
+
+-- so it is with the transactions that have a commit
 pub recovered-again : (s : Store) → recovered (recovered s) ≡ recovered s
 recovered-again s =
     let rs : List Record = s .records in
-    let g : ℕ = nextOf s in
-    let e : survivors (survivors rs) ≡ survivors rs =
-    only-again (done rs) (done (survivors rs)) (λ n h. rw (only-kept (done rs) n h rs) h) rs
-    in
-    let i : next g (survivors rs) ≡ g = omega (arith, only-above (done rs) (s .floor) g rs, above-least g (survivors rs)) in
-    rw (e, i)
+    kept-again (done rs) (done (survivors rs)) (λ n h. rw (only-kept (done rs) n h rs) h) s
 
 -- what the walk accepts keeps its last and its values
 module _ (low : ℕ) (rs : List Record) (h : accepts low rs ≡ true) where
-  good : Good low rs
-  good = accepts-good low rs h
-
   -- the walk accepts what is left
   pub survivors-accepted : accepts low (survivors rs) ≡ true
-  survivors-accepted = good-accepts (good-recover good)
-
-  fit : Fitting (done rs) low rs
-  fit = fit-done low rs (ends low low good)
+  survivors-accepted = good-accepts (good-recover (done rs) (λ n d. d) (accepts-good low rs h))
 
   -- last stays
   pub survivors-last : last low (survivors rs) ≡ last low rs
-  survivors-last = rw (← sift-low (done rs) good) (last-sift (done rs) low low (omega arith) fit)
+  survivors-last = last-recover (done rs) (λ n d. d) (accepts-good low rs h)
 
   -- values stay
   pub survivors-value : (v : Value) (k t : ℕ) → value v k t (survivors rs) ≡ value v k t rs
-  survivors-value v k t =
-      sym (since-all k t low v (good-recover good))
-      ∙ rw (← sift-low (done rs) good) (since-sift k t low (done rs) low v (omega arith) fit)
-      ∙ since-all k t low v good
+  survivors-value = value-recover (done rs) (λ n d. d) (accepts-good low rs h)

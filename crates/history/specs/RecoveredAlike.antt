@@ -1,24 +1,26 @@
--- Recovery: what it keeps answers as the history in which the running transactions were aborted. Assumes nothing.
-use mathlib.Core.Path.{_≡_, refl, _∙_}
-use mathlib.Core.Bool.{Bool, true, false, cond, false≢true}
+-- Recovery: what it keeps answers as the history in which the running transactions that it drops were aborted. Assumes nothing.
+use mathlib.Core.Path.{_≡_, refl, ap, sym, _∙_}
+use mathlib.Core.Bool.{Bool, true, false, cond, not, false≢true}
 use mathlib.Core.List.{List, [], _∷_}
 use Prim.Native.Nat.{ℕ, _≤_, max}
 use native.Mathlib.Omega.{arith}
 use lib.Dec.{eqb}
-use borrow.Author.Tests.{ne-eqb}
+use borrow.Author.Tests.{eq-eqb, ne-eqb}
 use Rattle.rules.specs.declared.Record.{Record}
 use Rattle.rules.specs.declared.Value.{Value}
 use Rattle.rules.specs.Kinds.{isBegin, isCommit, isEnd, aborted}
-use Rattle.rules.specs.Transactions.{any, of, runs, running}
-use Rattle.rules.specs.Times.{above}
+use Rattle.rules.specs.Transactions.{any, runs}
+use Rattle.rules.specs.Times.{last, above}
+use Rattle.rules.specs.Values.{value}
 use Rattle.rules.specs.Lists.{among}
 use Rattle.rules.specs.Checkpoints.{sift}
 use Rattle.rules.specs.Recovery.{done, only}
-use Rattle.rules.specs.Bools.{split, or-none, or-none-left, or-none-right, not-both, implies-false, and-false}
-use Rattle.rules.specs.Running.{not-ended, running-runs}
+use Rattle.rules.specs.Bools.{split, or-right, or-none, not-both, and-false}
 use Rattle.history.specs.Good.{Good, none, more, abort-step}
+use Rattle.history.specs.GoodLaws.{begun-of, snapshot-within}
 use Rattle.history.specs.Alike.{Alike, alike-step}
-use Rattle.history.specs.Kept.{Fitting, fit-more, good-sift}
+use Rattle.history.specs.Kept.{Fitting, fit-more, last-sift, good-sift}
+use Rattle.history.specs.ValueSince.{since-all, since-sift}
 use Rattle.history.specs.KeptAlike.{ends, fit-done, alike-sift}
 
 -- an abort of each of these numbers that runs
@@ -46,25 +48,19 @@ end-runs m (n ∷ ns) rs u =
     let i = end-runs m ns rs (rw x at u) in
     (i .0, or-none (eqb n m) (among m ns) (ne-eqb n m (λ e. not-both (runs m rs) (i .0) (rw (← e) x))) (i .1)))
 
--- then none runs
-none-run : (m : ℕ) (rs : List Record) → runs m (endAll (running rs) rs) ≡ false
-none-run m rs =
-    implies-false (runs m (endAll (running rs) rs)) false
-    (λ u.
-    let i = end-runs m (running rs) rs u in
-    not-both (among m (running rs)) (running-runs m rs ∙ i .0) (i .1))
-    refl
-
--- the records of the committed, with or without the aborts
-only-end : (K : ℕ → Bool) (ns : List ℕ) (rs : List Record) → ((n : ℕ) → runs n rs ≡ true → K n ≡ false) → only K (endAll ns rs) ≡ only K rs
+-- the records of the kept, with or without aborts of others
+only-end : (K : ℕ → Bool) (ns : List ℕ) (rs : List Record) → ((n : ℕ) → among n ns ≡ true → runs n rs ≡ true → K n ≡ false)
+    → only K (endAll ns rs) ≡ only K rs
 only-end K [] rs h = refl
 only-end K (n ∷ ns) rs h =
     split (runs n rs)
-    (λ x. rw (x, only-end K ns (aborted n ∷ rs) (λ m u. h m (run-before n m rs u .0)), h n x))
-    (λ x. rw (x, only-end K ns rs h))
+    (λ x.
+    let i = only-end K ns (aborted n ∷ rs) (λ m y u. h m (or-right (eqb n m) (among m ns) y) (run-before n m rs u .0)) in
+    rw (x, i, h n (rw (eq-eqb n n refl)) x))
+    (λ x. rw (x, only-end K ns rs (λ m y. h m (or-right (eqb n m) (among m ns) y))))
 
 -- at low no begin is raised
-pub sift-low : (K : ℕ → Bool) {low : ℕ} {rs : List Record} → Good low rs → sift K low rs ≡ only K rs
+sift-low : (K : ℕ → Bool) {low : ℕ} {rs : List Record} → Good low rs → sift K low rs ≡ only K rs
 sift-low K none = refl
 sift-low K {low} (more {r = r} g s) =
     let i = sift-low K g in
@@ -94,28 +90,45 @@ alike-end : (low fa fb : ℕ) (va vb : ℕ → Value) (ns : List ℕ) (a b : Lis
 alike-end low fa fb va vb [] a b h = h
 alike-end low fa fb va vb (n ∷ ns) a b h =
     split (runs n a)
-    (λ x. rw (x, ← h .run n, x) (alike-end low fa fb va vb ns (aborted n ∷ a) (aborted n ∷ b) (alike-step low fa fb va vb a b h (aborted n) (λ e. absurd (false≢true e)) (λ e. x) (λ e. absurd (false≢true e)))))
+    (λ x.
+    let i = alike-step low fa fb va vb a b h (aborted n) (λ e. absurd (false≢true e)) (λ e. x) (λ e. absurd (false≢true e)) in
+    rw (x, ← h .run n, x) (alike-end low fa fb va vb ns (aborted n ∷ a) (aborted n ∷ b) i))
     (λ x. rw (x, ← h .run n, x) (alike-end low fa fb va vb ns a b h))
 
--- a transaction without an end has no commit
-not-done : (own : List Record) → any isEnd own ≡ false → any isCommit own ≡ false
-not-done [] h = refl
-not-done (r ∷ own) h =
-    rw (or-none-left (isCommit r) (eqb (r .kind) 5) (or-none-left (isEnd r) (any isEnd own) h), not-done own (or-none-right (isEnd r) (any isEnd own) h))
+-- a committed transaction has an end
+pub committed-ends : (own : List Record) → any isCommit own ≡ true → any isEnd own ≡ true
+committed-ends [] h = h
+committed-ends (r ∷ own) h =
+    split (isCommit r) (λ c. rw c) (λ c. or-right (isEnd r) (any isEnd own) (committed-ends own (rw c at h)))
 
--- what recovery keeps is a good journal
-pub good-recover : {low : ℕ} {a : List Record} → Good low a → Good low (only (done a) a)
-good-recover {low} {a} g = rw (sift-low (done a) g) at (good-sift (done a) low (omega arith) g (fit-done low a (ends low low g)))
+-- what recovery keeps, whichever transactions those are, if every one with a commit is among them
+module _ (K : ℕ → Bool) {walked : ℕ} {a : List Record} (keeps : (n : ℕ) → done a n ≡ true → K n ≡ true) (g : Good walked a) where
+  -- the commits kept are those after the walk's low: all of them
+  fit : Fitting K walked a
+  fit = fit-done walked K a keeps (ends walked walked g)
 
--- and answers as the whole journal with the aborts
-pub alike-recover : (walked low fa fb : ℕ) (va vb : ℕ → Value) (a b : List Record) → walked ≤ low → Alike low fa fb va vb a b → Good walked a
-    → Alike low (above fa a) fb va vb (only (done a) a) (endAll (running b) b)
-alike-recover walked low fa fb va vb a b l h g =
-    let ns : List ℕ = running a in
-    let a' : List Record = endAll ns a in
-    let g' : Good walked a' = good-end ns g in
-    let e : sift (done a) walked a' ≡ only (done a) a = sift-low (done a) g' ∙ only-end (done a) ns a (λ n u. not-done (of n a) (not-ended (of n a) u)) in
-    rw (above-end fa ns a, e, h .runnings) at
-    (alike-sift walked low fa fb va vb a' (endAll ns b) (alike-end low fa fb va vb ns a b h) g' (done a) walked l
-    (fit-end (done a) walked ns a (fit-done walked a (ends walked walked g)))
-    (λ n u. not-both (runs n a') u (none-run n a)) (λ n u. not-both (runs n a') u (none-run n a)))
+  -- it is a good journal
+  pub good-recover : Good walked (only K a)
+  good-recover = rw (sift-low K g) at (good-sift K walked (omega arith) g fit)
+
+  -- last stays
+  pub last-recover : last walked (only K a) ≡ last walked a
+  last-recover = rw (← sift-low K g) (last-sift K walked walked (omega arith) fit)
+
+  -- values stay
+  pub value-recover : (v : Value) (k t : ℕ) → value v k t (only K a) ≡ value v k t a
+  value-recover v k t =
+      sym (since-all k t walked v good-recover)
+      ∙ rw (← sift-low K g) (since-sift k t walked K walked v (omega arith) fit)
+      ∙ since-all k t walked v g
+
+  -- it answers as the whole journal with the aborts, where of the running ones those are kept that are not aborted
+  pub alike-recover : (low fa fb : ℕ) (va vb : ℕ → Value) (b : List Record) → walked ≤ low → Alike low fa fb va vb a b
+      → (ns : List ℕ) → ((n : ℕ) → runs n a ≡ true → K n ≡ not (among n ns)) → Alike low (above fa a) fb va vb (only K a) (endAll ns b)
+  alike-recover low fa fb va vb b l h ns choice =
+      let a' : List Record = endAll ns a in
+      let g' : Good walked a' = good-end ns g in
+      let e : sift K walked a' ≡ only K a = sift-low K g' ∙ only-end K ns a (λ n x u. choice n u ∙ ap not x) in
+      rw (above-end fa ns a, e) at
+      (alike-sift walked low fa fb va vb a' (endAll ns b) (alike-end low fa fb va vb ns a b h) g' K walked l (fit-end K walked ns a fit)
+      (λ n u. let i = end-runs n ns a u in choice n (i .0) ∙ ap not (i .1)) (λ n u. snapshot-within g' n (begun-of n a' u) .0))

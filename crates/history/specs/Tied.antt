@@ -1,7 +1,7 @@
 -- The invariant of every sequence, step by step: the store answers as the whole journal of its deeds, and its own journal is one that the walk accepts, also where
 -- the newest records since the latest checkpoint, restart or start are cut off. Assumes nothing.
 use mathlib.Core.Path.{_≡_, refl, ap, sym, _∙_, subst}
-use mathlib.Core.Bool.{true}
+use mathlib.Core.Bool.{Bool, true, not}
 use mathlib.Core.List.{List, [], _∷_}
 use Prim.Native.Nat.{ℕ, zero, suc, _≤_}
 use native.Mathlib.Omega.{arith}
@@ -9,31 +9,33 @@ use lib.ListN.{drop}
 use Rattle.rules.specs.declared.Record.{Record}
 use Rattle.rules.specs.declared.Value.{Value}
 use Rattle.rules.specs.declared.Value.the-variants.{Absent}
-use Rattle.rules.specs.Kinds.{isBegin}
-use Rattle.rules.specs.Transactions.{runs, snapshot, running}
+use Rattle.rules.specs.Kinds.{isBegin, isEnd}
+use Rattle.rules.specs.Transactions.{any, of, runs, snapshot}
 use Rattle.rules.specs.Times.{last, above, next}
 use Rattle.rules.specs.Values.{rowValue, value}
-use Rattle.rules.specs.Lists.{rising, listAt}
+use Rattle.rules.specs.Lists.{among, rising, listAt}
 use Rattle.rules.specs.Checkpoints.{kept}
-use Rattle.rules.specs.Recovery.{survivors}
+use Rattle.rules.specs.Recovery.{done, only}
 use Rattle.rules.specs.Calls.{Store, empty, lastOf, nextOf, valueOf, Call, Begin, Update, Abort, Commit, recordOf, refusal, checkpointRefusal, push, checkpointed}
-use Rattle.rules.specs.Bools.{split}
+use Rattle.rules.specs.Bools.{split, implies-false}
+use Rattle.rules.specs.Running.{not-ended}
 use Rattle.rules.specs.Listing.{list-lists}
 use Rattle.journal.specs.Past.{low-last}
-use Rattle.history.specs.History.{Deed, Did, Checkpointed, numbers, history, restarted}
-use Rattle.history.specs.Course.{Course, lose, recovered, walkLow}
+use Rattle.history.specs.History.{Deed, Did, Checkpointed, numbers, history, restartedBy, restarted}
+use Rattle.history.specs.Course.{Course, lose, recoveredBy, recovered, walkLow}
 use Rattle.history.specs.Good.{Step, Good, none, more}
 use Rattle.history.specs.Alike.{Alike, alike-step}
 use Rattle.history.specs.Kept.{last-low}
 use Rattle.history.specs.ValueSince.{since-all}
 use Rattle.history.specs.KeptAlike.{alike-checkpoint, good-checkpoint}
-use Rattle.history.specs.RecoveredAlike.{good-recover, alike-recover}
+use Rattle.history.specs.RecoveredAlike.{committed-ends, good-recover, last-recover, alike-recover}
 use Rattle.history.specs.RefusedAlike.{conflict-same, held-same}
 use Rattle.history.specs.GoodLaws.{above-mono, above-least, above-top, last-more, step-lower}
 use Rattle.history.specs.Replayed.{whole, whole-floor}
 use Rattle.history.specs.Allowed.{refused, Allowed, may-checkpoint, allowed}
 use Rattle.history.specs.Written.{begins-next, same-record, call-step}
 use Rattle.history.specs.Lawful.{Lawful, start, went, lawful-drop}
+use Rattle.history.specs.Told.{runner}
 use Rattle.history.specs.Whole.{sound, tells, whole-refuses, lawful-aborting, whole-aborting, low-aborting}
 
 -- the records written since, and the deeds that wrote them: `i` of them
@@ -108,32 +110,43 @@ module _ (y : Course) (h : Tied y) (x : ℕ) (l : x ≤ y .since) where
   cut-next : next (y .store .floor) (drop x (y .store .records)) ≡ above (y .store .floor) (drop x (y .store .records))
   cut-next = let t = above-top (y .store .floor) (h .capped) cut-good in omega arith
 
-  -- recovery keeps the invariant
-  pub tied-restart : Tied (record { store = recovered (lose x (y .store)); deeds = restarted x (y .deeds); since = 0 })
-  tied-restart =
+  -- recovery keeps the invariant, whichever transactions it keeps and the history does not abort: every one with a commit, and of the running ones those
+  -- that are not to be aborted
+  tied-recovered : (K : ℕ → Bool) (ns : List ℕ) → ((n : ℕ) → done (drop x (y .store .records)) n ≡ true → K n ≡ true)
+      → ((n : ℕ) → runs n (drop x (y .store .records)) ≡ true → K n ≡ not (among n ns))
+      → Tied (record { store = recoveredBy K (lose x (y .store)); deeds = restartedBy ns x (y .deeds); since = 0 })
+  tied-recovered K ns keeps choice =
       let f : ℕ = y .store .floor in
       let a : List Record = drop x (y .store .records) in
       let left : List Deed = drop x (y .deeds) in
       let ok : Lawful left = lawful-drop x (h .lawful) in
-      let ns : List ℕ = numbers (history left .runners) in
-      let e : ns ≡ running (whole left .records) = tells ok .runs-alike in
       record {
-        mark = survivors a;
-        past = restarted x (y .deeds);
+        mark = only K a;
+        past = restartedBy ns x (y .deeds);
         alike =
-            rw (cut-next, whole-aborting ns left ok, e)
-            (alike-recover (walkLow (y .store)) (y .store .low) f 1 (rowValue (y .store .base)) (λ k. Absent) a (whole left .records) (h .behind)
-            cut-alike cut-good);
-        good = good-recover cut-good;
+            rw (cut-next, whole-aborting ns left ok)
+            (alike-recover K keeps cut-good (y .store .low) f 1 (rowValue (y .store .base)) (λ k. Absent) (whole left .records) (h .behind) cut-alike ns choice);
+        good = good-recover K keeps cut-good;
         since = marked;
         behind = h .behind;
-        within = low-last (y .store .low) (survivors a);
+        within = rw (last-recover K keeps cut-good) (omega (arith, h .within, last-since (since-lost x l (h .since) .1)));
         lows = low-aborting ns left ∙ cut-low;
         floored = rw cut-next (omega (arith, h .floored, above-least f a));
         capped = omega arith;
         sorted = h .sorted;
         lawful = lawful-aborting ns left ok;
       }
+
+  -- a restart keeps what has a commit, and aborts all that runs
+  pub tied-restart : Tied (record { store = recovered (lose x (y .store)); deeds = restarted x (y .deeds); since = 0 })
+  tied-restart =
+      let a : List Record = drop x (y .store .records) in
+      let left : List Deed = drop x (y .deeds) in
+      let ok : Lawful left = lawful-drop x (h .lawful) in
+      tied-recovered (done a) (numbers (history left .runners)) (λ n d. d)
+      (λ n u.
+      let r : among n (numbers (history left .runners)) ≡ true = runner (history left) (whole left) (sound ok) (tells ok) n ∙ sym (cut-alike .run n) ∙ u in
+      rw (implies-false (done a n) (any isEnd (of n a)) (committed-ends (of n a)) (not-ended (of n a) u), r))
 
 module _ (y : Course) (h : Tied y) where
   -- the store answers as the whole journal of its deeds
