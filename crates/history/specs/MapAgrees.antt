@@ -24,6 +24,7 @@ use Rattle.rules.specs.Meeting.{wrote-reads, touched-same}
 use Rattle.rules.specs.Bools.{split, and-left, and-right, and-both, or-right, or-none-left, or-none-right, not-both, implies-false, and-false}
 use Rattle.rules.specs.Running.{not-ended, running-skip, running-end, runs-skip, touched-skip, touched-open, wrote-among}
 use Rattle.slot.specs.Places.{Place, free, taken, hasKey, runningValue, note, placeOf, openIn, amend, occupied}
+use Rattle.versions.specs.declared.Version.{Version}
 use Rattle.versions.specs.Versions.{at, later, thin}
 use Rattle.map_store.specs.Meaning.{MapStore, current, rowsAt, updatedPlace, stamp}
 use Rattle.rules.specs.KeptLaws.{any-more}
@@ -166,33 +167,46 @@ module _ (m : MapStore) (low : ℕ) (all : List Record) (h : Agree m low all) (g
         orders = h .orders;
       }
 
-  module _ (n : ℕ) (runner : runs n all ≡ true) where
-    -- a running transaction has a place
-    some-place : isFree (placeOf n (m .places)) ≡ false
-    some-place = not-true (isFree (placeOf n (m .places))) (sym (says-run (h .says n)) ∙ runner)
+  -- a running transaction has a place
+  some-place : (n : ℕ) → runs n all ≡ true → isFree (placeOf n (m .places)) ≡ false
+  some-place n runner = not-true (isFree (placeOf n (m .places))) (sym (says-run (h .says n)) ∙ runner)
 
+  -- an end frees the place of its transaction; what it does to last and the versions is given
+  agree-end : (r : Record) → runs (r .transaction) all ≡ true → isBegin r ≡ false → isEnd r ≡ true → (l : ℕ) (vs : List Version) → l ≡ last low (r ∷ all)
+      → ((j k : ℕ) → runs j all ≡ true → value Absent k (snapshot j all) (r ∷ all) ≡ value Absent k (snapshot j all) all)
+      → ((k t : ℕ) → 1 ≤ k → low ≤ t → versions.valueAt k t vs ≡ value Absent k t (r ∷ all))
+      → ((s k : ℕ) → low ≤ s → later s k vs ≡ touched (r ∷ all) s (wrote k) (r ∷ all)) → ordered l vs ≡ true
+      → Agree (record { low = m .low; last = l; next = m .next; places = amend (r .transaction) free (m .places); versions = vs }) low (r ∷ all)
+  agree-end r runner hb he l vs lasts same values touches orders =
+      let n : ℕ = r .transaction in
+      let c = amend-free n (m .places) (h .single) (some-place n runner) in
+      let x = fewer n all runner in
+      record {
+        lows = h .lows;
+        lasts = lasts;
+        nexts = rw hb (h .nexts);
+        says =
+            λ j.
+            split (eqb (r .transaction) j)
+            (λ e.
+            subst (λ (i : ℕ). Says (r ∷ all) i (placeOf i (amend (r .transaction) free (m .places)))) (eqb-true (r .transaction) j e)
+            (rw (c .0) (idle (rw (eq-eqb (r .transaction) (r .transaction) refl, hb, he, and-false)))))
+            (λ e.
+            rw (amend-other (r .transaction) free (λ i ps y. refl) j (m .places) e) (says-same all (r ∷ all) j (rw e) (same j) (h .says j)));
+        single = amend-once n free (λ i ps y. refl) (λ ps y o. o) (m .places) (h .single);
+        eight = rw (amend-length n free (m .places)) (h .eight);
+        count = rw (hb, running-end r he all all) (omega (arith, c .1, h .count, x));
+        values = values;
+        touches = touches;
+        orders = orders;
+      }
+
+  module _ (n : ℕ) (runner : runs n all ≡ true) where
     -- abort
     pub agree-abort : Agree (record { low = m .low; last = m .last; next = m .next; places = amend n free (m .places); versions = m .versions }) low (aborted n ∷ all)
     agree-abort =
-        let c = amend-free n (m .places) (h .single) some-place in
-        let x = fewer n all runner in
-        record {
-          lows = h .lows;
-          lasts = h .lasts;
-          nexts = h .nexts;
-          says =
-              λ j.
-              split (eqb n j)
-              (λ e. subst (λ (i : ℕ). Says (aborted n ∷ all) i (placeOf i (amend n free (m .places))))
-              (eqb-true n j e) (rw (c .0) (idle (rw (eq-eqb n n refl, and-false)))))
-              (λ e. rw (amend-other n free (λ i ps y. refl) j (m .places) e) (says-same all (aborted n ∷ all) j (rw e) (λ k u. refl) (h .says j)));
-          single = amend-once n free (λ i ps y. refl) (λ ps y o. o) (m .places) (h .single);
-          eight = rw (amend-length n free (m .places)) (h .eight);
-          count = rw (running-end (aborted n) refl all all) (omega (arith, c .1, h .count, x));
-          values = h .values;
-          touches = λ s k l. rw (touched-skip (aborted n) refl all s (wrote k) (wrote-reads k) all) (h .touches s k l);
-          orders = h .orders;
-        }
+        agree-end (aborted n) runner refl refl (m .last) (m .versions) (h .lasts) (λ j k u. refl) (h .values)
+        (λ s k l. rw (touched-skip (aborted n) refl all s (wrote k) (wrote-reads k) all) (h .touches s k l)) (h .orders)
 
     -- commit
     pub agree-commit : (t : ℕ) → last low all < t → conflict n (snapshot n all) all ≡ false
@@ -202,46 +216,26 @@ module _ (m : MapStore) (low : ℕ) (all : List Record) (h : Agree m low all) (g
         go : (p : Place) → Says all n p → Agree (record { low = m .low; last = t; next = m .next; places = amend n free (m .places); versions = stamp t (rowsAt p) (m .versions) }) low (committed n t ∷ all)
         go p (idle u) = not-both (runs n all) runner u
         go p (busy s rows u v keys f) =
-            let c = amend-free n (m .places) (h .single) some-place in
-            let x = fewer n all runner in
             let lt : m .last < t = omega (arith, h .lasts) in
             let hk : (k : ℕ) → hasKey k rows ≡ wrote k (of n all) = λ k. has-among k rows ∙ ap (among k) keys ∙ wrote-among k (of n all) in
             rw (firsts-written rows (of n all) keys)
-            (record {
-              lows = h .lows;
-              lasts = omega arith;
-              nexts = h .nexts;
-              says =
-                  λ j.
-                  split (eqb n j)
-                  (λ e. subst (λ (i : ℕ). Says (committed n t ∷ all) i (placeOf i (amend n free (m .places))))
-                  (eqb-true n j e) (rw (c .0) (idle (rw (eq-eqb n n refl, and-false)))))
-                  (λ e.
-                  rw (amend-other n free (λ i ps y. refl) j (m .places) e)
-                  (says-same all (committed n t ∷ all) j (rw e) (λ k w. rw (lt-leb t (snapshot j all) (omega (arith, g .upto j w)))) (h .says j)));
-              single = amend-once n free (λ i ps y. refl) (λ ps y o. o) (m .places) (h .single);
-              eight = rw (amend-length n free (m .places)) (h .eight);
-              count = rw (running-end (committed n t) refl all all) (omega (arith, c .1, h .count, x));
-              values =
-                  λ k a i l.
-                  rw (value-stamp k a t (m .last) rows (m .versions) (h .orders) lt, h .values k a i l)
-                  (split (leb t a)
-                  (λ y.
-                  let y2 = leb-true t a y in
-                  split (wrote k (of n all))
-                  (λ w.
-                  let q : value Absent k (snapshot n all) all ≡ value Absent k a all =
-                  value-quiet Absent k (snapshot n all) a all all (omega (arith, g .upto n u)) (λ j z. z)
-                  (not-touched all (snapshot n all) k (of n all) (sym (conflict-wrote n (snapshot n all) all) ∙ clear) w)
-                  in
-                  rw (y, has-first k rows (value Absent k a all) (hk k ∙ w), f k i w, q))
-                  (λ w. rw (y, first-has k rows (hk k ∙ w), effects-not k (of n all) (value Absent k a all) w)))
-                  (λ y. rw y));
-              touches =
-                  λ a k l.
-                  rw (later-stamp a k t rows (m .versions), h .touches a k l, touched-skip (committed n t) refl all a (wrote k) (wrote-reads k) all, eq-eqb n n refl, hk k);
-              orders = ordered-stamp t (m .last) rows (m .versions) (h .orders) (omega arith);
-            })
+            (agree-end (committed n t) runner refl refl t _ (omega arith) (λ j k w. rw (lt-leb t (snapshot j all) (omega (arith, g .upto j w))))
+            (λ k a i l.
+            rw (value-stamp k a t (m .last) rows (m .versions) (h .orders) lt, h .values k a i l)
+            (split (leb t a)
+            (λ y.
+            let y2 = leb-true t a y in
+            split (wrote k (of n all))
+            (λ w.
+            let q : value Absent k (snapshot n all) all ≡ value Absent k a all =
+            value-quiet Absent k (snapshot n all) a all all (omega (arith, g .upto n u)) (λ j z. z)
+            (not-touched all (snapshot n all) k (of n all) (sym (conflict-wrote n (snapshot n all) all) ∙ clear) w)
+            in
+            rw (y, has-first k rows (value Absent k a all) (hk k ∙ w), f k i w, q))
+            (λ w. rw (y, first-has k rows (hk k ∙ w), effects-not k (of n all) (value Absent k a all) w)))
+            (λ y. rw y)))
+            (λ a k l. rw (later-stamp a k t rows (m .versions), h .touches a k l, touched-skip (committed n t) refl all a (wrote k) (wrote-reads k) all, eq-eqb n n refl, hk k))
+            (ordered-stamp t (m .last) rows (m .versions) (h .orders) (omega arith)))
 
   -- the running value is rule 3.5's
   pub current-is : (n k s : ℕ) (rows : List Row) → 1 ≤ k → runs n all ≡ true → s ≡ snapshot n all → rowKeys rows ≡ keysWritten (of n all)

@@ -197,6 +197,19 @@ module _ (h : History) (s : Store) (w : Sound s) (t : Tells h s) where
     end-runs : numbers (ended (r .transaction) (h .runners)) ≡ running (r ∷ s .records)
     end-runs = rw (ended-numbers (r .transaction) (h .runners), b, running-end r e (s .records) (s .records), t .runs-alike)
 
+    -- an end; what is committed then is given
+    tells-end : (cs : List Commitment) → cs ≡ commitmentsIn (r ∷ s .records)
+        → Tells (record { low = h .low; next = h .next; commitments = cs; runners = ended (r .transaction) (h .runners) }) (push r s)
+    tells-end cs q =
+        record {
+          lows = t .lows;
+          nexts = rw b (t .nexts);
+          commits = q;
+          runs-alike = end-runs;
+          own = end-own;
+          snaps = end-snaps;
+        }
+
   -- one deed more
   pub tells-deed : {d : Deed} → Allowed s d → Tells (told d h) (replayed d s)
   tells-deed (may-begin u p q x y) = tells-begin u
@@ -204,25 +217,7 @@ module _ (h : History) (s : Store) (w : Sound s) (t : Tells h s) where
       let w = writing n k e in
       rw (w .number, w .key, w .effect) at
       (tells-update (updated n k e) (w .updates) (w .begins) (w .commits) (w .ends) (rw (w .number) p))
-  tells-deed (may-abort n p) =
-      let r = aborted n in
-      record {
-        lows = t .lows;
-        nexts = t .nexts;
-        commits = t .commits;
-        runs-alike = end-runs r refl refl;
-        own = end-own r refl refl;
-        snaps = end-snaps r refl refl;
-      }
-  tells-deed (may-commit n u p q x) =
-      let r = committed n u in
-      record {
-        lows = t .lows;
-        nexts = t .nexts;
-        commits = rw (t .own n p, t .commits);
-        runs-alike = end-runs r refl refl;
-        own = end-own r refl refl;
-        snaps = end-snaps r refl refl;
-      }
+  tells-deed (may-abort n p) = tells-end (aborted n) refl refl _ (t .commits)
+  tells-deed (may-commit n u p q x) = tells-end (committed n u) refl refl _ (rw (t .own n p, t .commits))
   tells-deed (may-checkpoint u p q x) =
       record { lows = refl; nexts = t .nexts; commits = t .commits; runs-alike = t .runs-alike; own = t .own; snaps = t .snaps }
