@@ -63,6 +63,8 @@ pub record Shows (rows : List Row) (number : ℕ) (listed contents : List ℕ) (
 -- exactly the registers of a history at t, in the first n places of two columns: keys rise strictly; a key stands there exactly if a transaction
 -- committed at or before t wrote it; its value is the history's
 pub record Registers (cs : List Commitment) (t n : ℕ) (keys values : List ℕ) : Type 0 where
+  pub in-keys : n ≤ length keys
+  pub in-values : n ≤ length values
   pub rise : (i j : ℕ) → i < j → j < n → getD keys i 0 < getD keys j 0
   pub each : (k : ℕ) → 1 ≤ k → writtenBy cs t k ≡ true → (i : ℕ) × (i < n) × (getD keys i 0 ≡ k)
   pub only : (i : ℕ) → i < n → (1 ≤ getD keys i 0) × (writtenBy cs t (getD keys i 0) ≡ true)

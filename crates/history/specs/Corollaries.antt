@@ -27,14 +27,12 @@ use Rattle.history.specs.Lawful.{Lawful, went}
 use Rattle.history.specs.Listed.{history-lists}
 use Rattle.history.specs.Silence.{latest-low}
 use Rattle.history.specs.Cells.{Cells, end, Lent, Shows, Reached}
-use Rattle.history.specs.Lent.{tie}
 use Rattle.history.specs.Told.{changed-own}
-use Rattle.history.specs.Demands.{journal-lists-the-history, looks-up-the-history}
+use Rattle.history.specs.Demands.{accepted-is-lawful, journal-lists-the-history, looks-up-the-history}
 use Rattle.map_store.specs.declared.MapHead.{MapHead}
 use Rattle.map_store.specs.Contracts.{readReply, lookupReply, ListedAt}
 use Rattle.history.specs.MapCells.{MapCells, MapLent, Does, begins, updates, aborts, commits, checkpoints, MapReached}
-use Rattle.history.specs.MapMeant.{map-meant}
-use Rattle.history.specs.MapDemands.{map-lists, map-looks-up-the-history}
+use Rattle.history.specs.MapDemands.{map-accepted-is-lawful, map-lists, map-looks-up-the-history}
 use Rattle.journal_store.specs.Checkpoint as checkpoint
 use Rattle.map_store.specs.Contracts as contract
 
@@ -98,14 +96,14 @@ module _ {room : ℕ → Type 0} {ds : List Deed} {since : ℕ} {x : Cells} (n k
 
   pub a-committed-assign-is-looked-up : shapedReply (x .head) keys values journal (lookupDecided k t) ≡ accepted (Present v)
   a-committed-assign-is-looked-up =
-      let ok = tie r .lawful in
+      let ok = accepted-is-lawful r in
       looks-up-the-history r keys values journal l k t ∙ rw (answered n k v t ok, assigned n k v t ok)
 
   pub a-committed-assign-is-listed : (listed contents : List ℕ) → length listed ≡ length contents → length rows ≤ length listed
       → (a : Reply) (listed' contents' : List ℕ) → ListedBy (x .head) keys values journal t listed contents a listed' contents'
       → Shows rows 0 listed contents a listed' contents' × (rowValue rows k ≡ Present v)
   a-committed-assign-is-listed listed contents p fits a listed' contents' w =
-      let ok = tie r .lawful in
+      let ok = accepted-is-lawful r in
       let y = timely n k v t ok in
       (journal-lists-the-history r keys values journal l t (y .0) (y .1) listed contents p fits a listed' contents' w, row n k v t ok)
 
@@ -116,14 +114,14 @@ module _ {ds : List Deed} {m : MapCells} (n k v t : ℕ) (r : MapReached (Did (C
 
   pub the-map-looks-up-a-committed-assign : lookupReply k t (m .head) ks ts vs ≡ accepted (Present v)
   the-map-looks-up-a-committed-assign =
-      let ok = map-meant r .lawful in
+      let ok = map-accepted-is-lawful r in
       map-looks-up-the-history r ks ts vs l k t ∙ rw (answered n k v t ok, assigned n k v t ok)
 
   pub the-map-lists-a-committed-assign : (listed contents : List ℕ) → length listed ≡ length contents → length map-rows ≤ length listed
       → (a : Reply) (listed' contents' : List ℕ) → ListedAt t (m .head) ks ts vs listed contents a listed' contents'
       → Shows map-rows 0 listed contents a listed' contents' × (rowValue map-rows k ≡ Present v)
   the-map-lists-a-committed-assign listed contents p fits a listed' contents' w =
-      let ok = map-meant r .lawful in
+      let ok = map-accepted-is-lawful r in
       let y = timely n k v t ok in
       (map-lists r ks ts vs l t (y .0) (y .1) listed contents p fits a listed' contents' w, row n k v t ok)
 

@@ -9,7 +9,7 @@ use native.Mathlib.Omega.{arith}
 use lib.Dec.{eqb, leb, ltb}
 use lib.ListN.{length}
 use borrow.Author.Tests.{not-false, eqb-true, eqb-false, eq-eqb, le-leb, le-ltb, ltb-false}
-use Rattle.rules.specs.declared.Value.the-variants.{Present}
+use Rattle.rules.specs.declared.Value.the-variants.{Absent, Present}
 use Rattle.rules.specs.Bools.{split}
 use Rattle.rules.specs.Passed.{passed, fitting}
 use Rattle.rules.specs.Transactions.{runs, running}
@@ -27,6 +27,7 @@ use Rattle.journal_store.specs.Checkpoint.{checkpointNumber}
 use Rattle.history.specs.History.{Commitment, History, Deed, Did, Checkpointed, numbers, history, valueIn, reads, listIn, writtenBy, isPresent}
 use Rattle.history.specs.Refusals.{lastIn, timeRefused, refusalIn, givesIn, needIn, numberIn, lookupNumber, readNumber}
 use Rattle.history.specs.Listed.{value-present, history-lists}
+use Rattle.history.specs.Lawful.{Lawful}
 use Rattle.history.specs.RefusalsTold.{length-numbers}
 use Rattle.history.specs.Whole.{whole-refuses}
 use Rattle.history.specs.Tied.{refused-alike}
@@ -36,6 +37,7 @@ use Rattle.history.specs.Meant.{courseOf}
 use Rattle.history.specs.Cells.{Cells, meaningOf, end, Lent, Shows, Registers, Reached}
 use Rattle.history.specs.Rows.{shown-registers}
 use Rattle.history.specs.Lent.{told-same, shows-same, tie, lent-passes, lent-meaning}
+use Rattle.journal_store.specs.Checkpoint as checkpoint
 
 -- The history's list has every register written by a transaction committed at or before t, and no other; each with the history's value, once, keys rising.
 pub list-has : (cs : List Commitment) (t : ℕ)
@@ -56,6 +58,10 @@ pub in-time : (t : ℕ) (h : History) (wanted room : ℕ) → h .low ≤ t → t
 in-time t h wanted room old new fits = rw (le-ltb t (h .low) old, le-ltb (lastIn h) t new, le-leb wanted room fits)
 
 module _ {room : ℕ → Type 0} {ds : List Deed} {since : ℕ} {x : Cells} (r : Reached room ds since x) where
+  -- What was accepted is what the history does not refuse.
+  pub accepted-is-lawful : Lawful ds
+  accepted-is-lawful = tie r .lawful
+
   -- low and last are the history's
   pub low-is : x .head .low ≡ history ds .low
   low-is = low-same (courseOf ds since x) (tie r)
@@ -175,12 +181,17 @@ module _ {room : ℕ → Type 0} {ds : List Deed} {since : ℕ} {x : Cells} (r :
         ∙ ap (told (numberIn (x .head .journal .used) (roomOf (length journal)) c (history ds))) (ap (gives c) (lent-meaning r keys values journal l) ∙ given c)
 
     -- A checkpoint too; its room is that of the base.
-    pub checkpoint-answers : (T : ℕ)
+    checkpoint-number : (T : ℕ)
         → checkpointNumber T (x .head) keys values journal
         ≡ withRoom (refusalIn (Checkpointed T) (history ds)) (length (listIn (history ds .commitments) T)) (rowRoom (length keys))
-    checkpoint-answers T =
+    checkpoint-number T =
         rw (lent-passes r keys values journal l)
         (ap (checkpointAnswer (rowRoom (length keys)) T) (lent-meaning r keys values journal l)
         ∙ room-same (checkpointRefusal T (meaningOf x)) (refusalIn (Checkpointed T) (history ds)) (length (listOf T (meaningOf x)))
         (length (listIn (history ds .commitments) T)) (rowRoom (length keys)) (refused-is (Checkpointed T))
         (λ z. ap length (list-same (courseOf ds since x) (tie r) T (ltb-false T (x .head .low) (passed (ltb T (x .head .low)) 4 _ (omega arith) z .0)))))
+
+    pub checkpoint-answers : (T : ℕ) (a : Reply) (head : Head) (keys' values' journal' : List ℕ)
+        → checkpoint.Checkpointed T (x .head) keys values journal a head keys' values' journal'
+        → a ≡ told (withRoom (refusalIn (Checkpointed T) (history ds)) (length (listIn (history ds .commitments) T)) (rowRoom (length keys))) Absent
+    checkpoint-answers T a head keys' values' journal' w = w .reply ∙ ap (λ (n : ℕ). told n Absent) (checkpoint-number T)

@@ -15,8 +15,11 @@ use Rattle.rules.specs.Lists.{among}
 use Rattle.rules.specs.Running.{running-runs}
 use Rattle.rules.specs.RoomLaws.{fewer}
 use Rattle.rules.specs.Calls.{Store, lastOf, conflictIn, Call, Abort, Commit, refusal, answer}
+use Rattle.rules.specs.declared.Value.the-variants.{Absent}
+use Rattle.answer.specs.Reply.{Reply, accepted, told}
+use Rattle.journal_store.specs.declared.Head.{Head}
 use Rattle.journal_store.specs.Shape.{roomOf}
-use Rattle.journal_store.specs.Write.{number}
+use Rattle.journal_store.specs.Write.{number, Wrote}
 use Rattle.history.specs.History.{Deed, numbers, history}
 use Rattle.history.specs.Cells.{Cells, meaningOf, end, Lent, Reached}
 use Rattle.history.specs.Meant.{meant}
@@ -57,19 +60,24 @@ module _ (bytes : ℕ) {ds : List Deed} {since : ℕ} {x : Cells} (r : Reached (
       (λ e. rw e)
 
   -- Abort of a running transaction is accepted.
-  pub ending-is-possible : (n : ℕ) → among n (numbers (history ds .runners)) ≡ true → number (Abort n) (x .head) keys values journal ≡ 0
-  ending-is-possible n u =
-      meant-number (Abort n) ∙ aborts n (sym (running-runs n (meaningOf x .records)) ∙ rw (running-is r) u)
+  pub ending-is-possible : (n : ℕ) → among n (numbers (history ds .runners)) ≡ true → (a : Reply) (head : Head) (journal' : List ℕ)
+      → Wrote (Abort n) (x .head) keys values journal a head journal' → a ≡ accepted Absent
+  ending-is-possible n u a head journal' w =
+      w .reply
+      ∙ ap (λ (i : ℕ). told i Absent) (meant-number (Abort n) ∙ aborts n (sym (running-runs n (meaningOf x .records)) ∙ rw (running-is r) u))
 
   -- Abort and commit never get 12.
-  pub abort-never-12 : (n : ℕ) → number (Abort n) (x .head) keys values journal ≢ 12
-  abort-never-12 n e =
+  pub abort-never-12 : (n : ℕ) (a : Reply) (head : Head) (journal' : List ℕ) → Wrote (Abort n) (x .head) keys values journal a head journal' → a .number ≢ 12
+  abort-never-12 n a head journal' w e =
+      let f : answer (roomOf bytes) (Abort n) (meaningOf x) ≡ 12 = sym (meant-number (Abort n)) ∙ sym (ap (λ (q : Reply). q .number) (w .reply)) ∙ e in
       split (runs n (meaningOf x .records))
-      (λ u. let z : _≡_ {A = ℕ} 0 12 = sym (aborts n u) ∙ sym (meant-number (Abort n)) ∙ e in absurd (omega arith))
-      (λ u. let z : _≡_ {A = ℕ} 2 12 = rw u at (sym (meant-number (Abort n)) ∙ e) in absurd (omega arith))
+      (λ u. let z : _≡_ {A = ℕ} 0 12 = sym (aborts n u) ∙ f in absurd (omega arith))
+      (λ u. let z : _≡_ {A = ℕ} 2 12 = rw u at f in absurd (omega arith))
 
-  pub commit-never-12 : (n t : ℕ) → number (Commit n t) (x .head) keys values journal ≢ 12
-  commit-never-12 n t e =
+  pub commit-never-12 : (n t : ℕ) (a : Reply) (head : Head) (journal' : List ℕ) → Wrote (Commit n t) (x .head) keys values journal a head journal'
+      → a .number ≢ 12
+  commit-never-12 n t a head journal' w e =
+      let f : answer (roomOf bytes) (Commit n t) (meaningOf x) ≡ 12 = sym (meant-number (Commit n t)) ∙ sym (ap (λ (q : Reply). q .number) (w .reply)) ∙ e in
       split (runs n (meaningOf x .records))
-      (λ u. commit-not-12 n t (meaningOf x) (sym (commits n t u) ∙ sym (meant-number (Commit n t)) ∙ e))
-      (λ u. let z : _≡_ {A = ℕ} 2 12 = rw u at (sym (meant-number (Commit n t)) ∙ e) in absurd (omega arith))
+      (λ u. commit-not-12 n t (meaningOf x) (sym (commits n t u) ∙ f))
+      (λ u. let z : _≡_ {A = ℕ} 2 12 = rw u at f in absurd (omega arith))

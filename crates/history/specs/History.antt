@@ -92,14 +92,14 @@ recalled (Commit n t) h =
     }
 
 -- one deed more
-abbrev pub told : Deed → History → History
-told (Did c) h = recalled c h
-told (Checkpointed t) h = record { low = t; next = h .next; commitments = h .commitments; runners = h .runners }
+abbrev pub withDeed : Deed → History → History
+withDeed (Did c) h = recalled c h
+withDeed (Checkpointed t) h = record { low = t; next = h .next; commitments = h .commitments; runners = h .runners }
 
 -- the history of some deeds, the newest first
 abbrev pub history : List Deed → History
 history [] = record { low = 0; next = 1; commitments = []; runners = [] }
-history (d ∷ older) = told d (history older)
+history (d ∷ older) = withDeed d (history older)
 
 -- an abort of each of these transactions that runs
 abbrev pub aborting : List ℕ → List Deed → List Deed

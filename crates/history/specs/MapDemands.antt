@@ -3,7 +3,7 @@
 -- for number and row for row. Assumes nothing.
 use mathlib.Core.Path.{_≡_, refl, ap, sym, _∙_}
 use mathlib.Core.Bool.{Bool, true, false, cond, not}
-use mathlib.Core.List.{List}
+use mathlib.Core.List.{List, _∷_}
 use mathlib.Core.Logic.{_≢_}
 use Prim.Native.Nat.{ℕ, _+_, _≤_}
 use native.Mathlib.Omega.{arith}
@@ -29,7 +29,7 @@ use Rattle.map_store.specs.Contracts.{shapedNumber, readReply, lookupReply, Lis
 use Rattle.map_store.specs.Laws.{number-good}
 use Rattle.history.specs.History.{History, Deed, Did, Checkpointed, numbers, changesOf, history, valueIn, reads, listIn}
 use Rattle.history.specs.Refusals.{distinctKeys, lastIn, timeRefused, unknownOr, refusalIn, givesIn, needIn, deedGives, mapNumberIn, lookupNumber, readNumber}
-use Rattle.history.specs.Lawful.{Lawful}
+use Rattle.history.specs.Lawful.{Lawful, went}
 use Rattle.history.specs.Maps.{mapped}
 use Rattle.history.specs.MapMeanings.{map-gives, map-refuses, map-times, map-value, map-list, map-reads, map-rows}
 use Rattle.history.specs.Cells.{Cells, end, Lent, Shows, Registers, Reached}
@@ -52,9 +52,13 @@ unknown-first : (b : Bool) (others : ℕ) → cond (eqb (cond (not b) 2 0) 0) ot
 unknown-first true others = refl
 unknown-first false others = refl
 
+-- What was accepted is what the history does not refuse.
+pub map-accepted-is-lawful : {ds : List Deed} {m : MapCells} → MapReached ds m → Lawful ds
+map-accepted-is-lawful r = map-meant r .lawful
+
 module _ {ds : List Deed} {m : MapCells} (r : MapReached ds m) (ks ts vs : List ℕ) (l : MapLent m ks ts vs) where
   ok : Lawful ds
-  ok = map-meant r .lawful
+  ok = map-accepted-is-lawful r
 
   means : shape.meaning (m .head) ks ts vs ≡ mapped ds
   means = let w = map-meant r in map-lent-meaning m (w .shaped) ks ts vs l ∙ w .means
@@ -157,8 +161,6 @@ module _ {ds : List Deed} {m : MapCells} (r : MapReached ds m) (ks ts vs : List 
       w .answered .reply ∙ rw (passes (mapAnswer room (Commit n t)), commit-number n t)
   map-answers a head (checkpoints T ks' ts' vs' w) = w .reply ∙ rw (passes (map.checkpointRefusal T), map-refuses ok (Checkpointed T))
 
--- BOTH STORES. The map store, given the same calls: one that accepted what a journal store accepted, with an abort for each transaction that a restart
--- ended there.
 -- a number that is not 12 is the number but for room
 but-for-room : (n wanted room : ℕ) → withRoom n wanted room ≢ 12 → withRoom n wanted room ≡ n
 but-for-room n wanted room h =
@@ -166,11 +168,22 @@ but-for-room n wanted room h =
     (λ e. split (leb wanted room) (λ y. rw (e, y) (sym (eqb-true n 0 e))) (λ y. absurd (h (rw (e, y)))))
     (λ e. rw e)
 
-but-for-rows : (used room : ℕ) (c : Call) (h : History) → mapNumberIn used room (Did c) h ≢ 12 → mapNumberIn used room (Did c) h ≡ refusalIn (Did c) h
-but-for-rows used room (Begin t) h n = refl
-but-for-rows used room (Update i k e) h n = refl
-but-for-rows used room (Abort i) h n = refl
-but-for-rows used room (Commit i t) h n = but-for-room (refusalIn (Did (Commit i t)) h) _ room n
+but-for-rows : (used room : ℕ) (d : Deed) (h : History) → mapNumberIn used room d h ≢ 12 → mapNumberIn used room d h ≡ refusalIn d h
+but-for-rows used room (Did (Begin t)) h n = refl
+but-for-rows used room (Did (Update i k e)) h n = refl
+but-for-rows used room (Did (Abort i)) h n = refl
+but-for-rows used room (Did (Commit i t)) h n = but-for-room (refusalIn (Did (Commit i t)) h) _ room n
+but-for-rows used room (Checkpointed t) h n = refl
+
+-- BOTH STORES. The map store, given the same calls: those that a journal store accepted and did not lose, with an abort for each transaction that a restart
+-- ended there. It accepts each of them, unless it has no room.
+module _ {ds : List Deed} {m : MapCells} (r : MapReached ds m) (ks ts vs : List ℕ) (l : MapLent m ks ts vs) where
+  pub the-map-accepts : {d : Deed} → Lawful (d ∷ ds) → (a : Reply) (head : MapHead) {ks' ts' vs' : List ℕ} → Does (m .head) ks ts vs a head d ks' ts' vs'
+      → a .number ≢ 12 → a ≡ told 0 (deedGives d (history ds))
+  the-map-accepts {d} (went ok e) a head w n =
+      let p = map-answers r ks ts vs l a head w in
+      let q = but-for-rows (m .head .used) (shape.roomOf (length ks)) d (history ds) (λ z. n (ap (λ (i : Reply). i .number) p ∙ z)) in
+      p ∙ ap (λ (i : ℕ). told i (deedGives d (history ds))) (q ∙ e)
 
 module _ {room : ℕ → Type 0} {ds : List Deed} {since : ℕ} {x : Cells} (j : Reached room ds since x) (keys values journal : List ℕ)
     (b : Lent x (end x) keys values journal) {m : MapCells} (r : MapReached ds m) (ks ts vs : List ℕ) (l : MapLent m ks ts vs) where
@@ -200,5 +213,5 @@ module _ {room : ℕ → Type 0} {ds : List Deed} {since : ℕ} {x : Cells} (j :
       let p = calls-answer j keys values journal b c a head journal' u in
       let q = map-answers r ks ts vs l a' head' v in
       let e = but-for-room (refusalIn (Did c) h) (x .head .journal .used + needIn c h) (roomOf (length journal)) (λ z. one (ap (λ (i : Reply). i .number) p ∙ z)) in
-      let f = but-for-rows (m .head .used) (shape.roomOf (length ks)) c h (λ z. other (ap (λ (i : Reply). i .number) q ∙ z)) in
+      let f = but-for-rows (m .head .used) (shape.roomOf (length ks)) (Did c) h (λ z. other (ap (λ (i : Reply). i .number) q ∙ z)) in
       p ∙ ap (λ (n : ℕ). told n (givesIn c h)) (e ∙ sym f) ∙ sym q

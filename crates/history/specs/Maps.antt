@@ -1,5 +1,4 @@
--- The map store that is given the same deeds as a journal store: the accepted calls and checkpoints, with an abort for each transaction that a restart
--- ended. Assumes nothing.
+-- The map store that some deeds make, on what it means. Assumes nothing.
 use mathlib.Core.List.{List, [], _∷_}
 use Prim.Native.Nat.{ℕ}
 use Rattle.map_store.specs.Meaning.{MapStore, emptyMap, mapRefusal, mapAfter}

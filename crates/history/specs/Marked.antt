@@ -1,27 +1,30 @@
 -- Section 8: the eleven marked examples, from figure 7 (b) and (c) with x as key 1 and y as key 2, as one table under one claim. An example is its calls on
--- two empty stores, a lookup, and what it gives; the claim has what the calls get in each store, by the contracts on lent cells, and what each store
--- answers, bad shape and all. Assumes nothing.
+-- two empty stores, a lookup, and what it gives; the claim has what each store answers to the lookup, shape test and all, behind the calls on lent cells.
+-- What the calls make of the cells is what their contracts say (`wrote-by`, `versioned-by`). Assumes nothing.
 use mathlib.Core.Path.{_≡_, refl}
 use mathlib.Core.List.{List, [], _∷_}
 use Prim.Native.Nat.{ℕ}
+use lib.Dec.{eqb}
 use lib.ListN.{replicate}
 use Rattle.rules.specs.declared.Value.the-variants.{Absent, Present}
 use Rattle.rules.specs.declared.Effect.the-variants.{Assign, Add}
-use Rattle.rules.specs.Calls.{Call, Begin, Update, Abort, Commit, recordOf}
+use Rattle.rules.specs.Calls.{Call, Begin, Update, Abort, Commit, recordOf, gives}
+use Rattle.rules.specs.Bools.{split}
 use Rattle.record.specs.Bytes.{appended}
-use Rattle.answer.specs.Reply.{Reply, accepted, after}
+use Rattle.answer.specs.Reply.{Reply, accepted, told, after}
 use Rattle.slot.specs.Slots.{slotOf, firstSlot, lowestFree}
 use Rattle.slot.specs.Places.{placesOf}
 use Rattle.versions.specs.Versions.{versionsOf}
 use Rattle.journal_store.specs.Shape.{emptyHead, grown}
-use Rattle.journal_store.specs.Write.{number}
+use Rattle.journal_store.specs.Write.{number, Wrote}
 use Rattle.journal_store.specs.Read.{lookupDecided, shapedReply}
 use Rattle.map_store.specs.Heads.{headAfter, rowsIn, written}
-use Rattle.map_store.specs.Contracts.{lookupReply}
+use Rattle.map_store.specs.Contracts.{Answered, Committed, lookupReply}
 use Rattle.history.specs.Cells.{Cells, meaningOf}
-use Rattle.history.specs.MapCells.{MapCells}
+use Rattle.history.specs.MapCells.{MapCells, mapMeaningOf}
 use Rattle.map_store.specs.Shape as map
 use Rattle.map_store.specs.Contracts as contract
+use Rattle.map_store.specs.Meaning as meaning
 
 -- what a call makes of the cells of a journal store
 abbrev wrote : Call → Cells → Cells
@@ -34,6 +37,13 @@ wrote c x =
       journal = appended (x .journal) (x .head .journal .used) (recordOf c (meaningOf x));
     })
     x
+
+wrote-by : (c : Call) (x : Cells)
+    → Wrote c (x .head) (x .keys) (x .values) (x .journal) (told (number c (x .head) (x .keys) (x .values) (x .journal)) (gives c (meaningOf x)))
+    (wrote c x .head) (wrote c x .journal)
+wrote-by c x =
+    let n = number c (x .head) (x .keys) (x .values) (x .journal) in
+    record { reply = refl; headed = split (eqb n 0) (λ e. rw e) (λ e. rw e); cells = split (eqb n 0) (λ e. rw e) (λ e. rw e) }
 
 -- journal room for 20 records
 abbrev journalAfter : List Call → Cells
@@ -62,6 +72,26 @@ versioned (Commit n t) x =
       values = written (x .head .used) (λ r. r .value) rows (x .values);
     })
     x
+
+noted-by : (c : Call) (x : MapCells)
+    → Answered c (x .head) (x .keys) (x .times) (x .values)
+    (told (contract.number c (x .head) (x .keys) (x .times) (x .values)) (meaning.gives c (mapMeaningOf x))) (noted c x .head)
+noted-by c x =
+    let n = contract.number c (x .head) (x .keys) (x .times) (x .values) in
+    record { reply = refl; headed = split (eqb n 0) (λ e. rw e) (λ e. rw e) }
+
+versioned-by : (n t : ℕ) (x : MapCells)
+    → Committed n t (x .head) (x .keys) (x .times) (x .values)
+    (told (contract.number (Commit n t) (x .head) (x .keys) (x .times) (x .values)) (meaning.gives (Commit n t) (mapMeaningOf x)))
+    (versioned (Commit n t) x .head) (versioned (Commit n t) x .keys) (versioned (Commit n t) x .times) (versioned (Commit n t) x .values)
+versioned-by n t x =
+    let i = contract.number (Commit n t) (x .head) (x .keys) (x .times) (x .values) in
+    record {
+      answered = record { reply = refl; headed = split (eqb i 0) (λ e. rw e) (λ e. rw e) };
+      keys = split (eqb i 0) (λ e. rw e) (λ e. rw e);
+      times = split (eqb i 0) (λ e. rw e) (λ e. rw e);
+      values = split (eqb i 0) (λ e. rw e) (λ e. rw e);
+    }
 
 -- room for 8 versions
 abbrev mapAfter : List Call → MapCells

@@ -8,17 +8,14 @@ use native.Mathlib.Omega.{arith}
 use lib.Dec.{eqb}
 use borrow.Author.Tests.{eqb-true, ne-eqb}
 use Rattle.rules.specs.declared.Record.{Record}
-use Rattle.rules.specs.declared.Value.{Value}
 use Rattle.rules.specs.Kinds.{isBegin}
 use Rattle.rules.specs.Transactions.{of, runs}
-use Rattle.rules.specs.Times.{last, above, next}
-use Rattle.rules.specs.Values.{value}
-use Rattle.rules.specs.Recovery.{accepts, done, only, survivors}
+use Rattle.rules.specs.Times.{above, next}
+use Rattle.rules.specs.Recovery.{done, only, survivors}
 use Rattle.rules.specs.Calls.{Store, nextOf}
 use Rattle.rules.specs.Bools.{split, not-both, and-false}
 use Rattle.history.specs.Course.{recoveredBy, recovered}
-use Rattle.history.specs.Judged.{good-accepts, accepts-good}
-use Rattle.history.specs.RecoveredAlike.{committed-ends, good-recover, last-recover, value-recover}
+use Rattle.history.specs.RecoveredAlike.{committed-ends}
 use Rattle.history.specs.GoodLaws.{above-least}
 
 module _ (K : ℕ → Bool) where
@@ -75,17 +72,3 @@ pub recovered-again : (s : Store) → recovered (recovered s) ≡ recovered s
 recovered-again s =
     let rs : List Record = s .records in
     kept-again (done rs) (done (survivors rs)) (λ n h. rw (only-kept (done rs) n h rs) h) s
-
--- what the walk accepts keeps its last and its values
-module _ (low : ℕ) (rs : List Record) (h : accepts low rs ≡ true) where
-  -- the walk accepts what is left
-  pub survivors-accepted : accepts low (survivors rs) ≡ true
-  survivors-accepted = good-accepts (good-recover (done rs) (λ n d. d) (accepts-good low rs h))
-
-  -- last stays
-  pub survivors-last : last low (survivors rs) ≡ last low rs
-  survivors-last = last-recover (done rs) (λ n d. d) (accepts-good low rs h)
-
-  -- values stay
-  pub survivors-value : (v : Value) (k t : ℕ) → value v k t (survivors rs) ≡ value v k t rs
-  survivors-value = value-recover (done rs) (λ n d. d) (accepts-good low rs h)

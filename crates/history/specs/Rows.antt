@@ -5,7 +5,7 @@ use mathlib.Core.List.{List, [], _∷_}
 use Prim.Native.Nat.{ℕ, zero, suc, _<_, _≤_}
 use native.Mathlib.Omega.{arith}
 use lib.Dec.{eqb, ltb}
-use lib.ListN.{length, drop, getD, List·getD-append}
+use lib.ListN.{length, drop, getD, length-append, List·getD-append}
 use borrow.Author.Tests.{eqb-true, eq-eqb, ne-eqb, ltb-true}
 use Rattle.rules.specs.declared.Value.the-variants.{Present}
 use Rattle.rules.specs.Bools.{split, and-left, and-right}
@@ -75,6 +75,8 @@ shown-registers cs t listed contents p fits a listed' contents' s =
       length rows,
       s .reply,
       record {
+        in-keys = omega (arith, ap length (s .keys-column), length-append (rowKeys rows) (drop (length rows) listed), length-keys rows);
+        in-values = omega (arith, ap length (s .values-column), length-append (rowValues rows) (drop (length rows) contents), length-values rows);
         rise = λ i j b c. let d = rise 0 rows (l .rises) i j b c in omega (arith, key i (omega arith), key j c);
         each =
             λ k b c.

@@ -1,5 +1,5 @@
--- CHECKPOINT IS SILENT. However many checkpoints a sequence has: at every time that is still answered for it lists what the same sequence lists with
--- any of its accepted checkpoints taken out, and without them the rules refuse none of its calls. Assumes nothing.
+-- CHECKPOINT IS SILENT, in both stores and between them. However many checkpoints a sequence has: at every time that is still answered for it lists what the
+-- same sequence lists with any of its accepted checkpoints taken out, and without them the rules refuse none of its calls. Assumes nothing.
 use mathlib.Core.Path.{_≡_, refl, ap, sym, _∙_, subst}
 use mathlib.Core.List.{List, [], _∷_}
 use Prim.Native.Nat.{ℕ, _≤_, max}
@@ -17,9 +17,12 @@ use Rattle.history.specs.Replayed.{whole}
 use Rattle.history.specs.Lawful.{Lawful, start, went}
 use Rattle.history.specs.Told.{last-told}
 use Rattle.history.specs.Whole.{sound, tells}
-use Rattle.history.specs.Cells.{Cells, end, Lent, Reached}
-use Rattle.history.specs.Lent.{shows-same, shows-alike, tie}
-use Rattle.history.specs.Demands.{list-answers}
+use Rattle.history.specs.Cells.{Cells, end, Lent, Shows, Reached}
+use Rattle.history.specs.Lent.{shows-same, shows-alike}
+use Rattle.history.specs.Demands.{accepted-is-lawful, list-answers}
+use Rattle.map_store.specs.Contracts.{ListedAt}
+use Rattle.history.specs.MapCells.{MapCells, MapLent, MapReached}
+use Rattle.history.specs.MapDemands.{map-accepted-is-lawful, map-list-answers}
 
 -- the deeds without the checkpoints
 abbrev pub withoutCheckpoints : List Deed → List Deed
@@ -66,10 +69,14 @@ last-commit {ds} ok =
     let e : history ds .commitments ≡ history (withoutCheckpoints ds) .commitments = ap (λ (h : History). h .commitments) (only-low ds) in
     latest-low (history ds .low) (history ds .commitments) ∙ rw (← e) (omega arith)
 
--- The same sequence with and without checkpoints: two stores reached with deeds that differ in checkpoints alone. At every time from low on, of both,
--- they answer a list alike: number, count and rows.
-module _ {room room' : ℕ → Type 0} {ds ds' : List Deed} {since since' : ℕ} {x x' : Cells} (r : Reached room ds since x) (r' : Reached room' ds' since' x')
-    (same : withoutCheckpoints ds ≡ withoutCheckpoints ds') where
+-- a list at t is answered as the history of some deeds answers it
+abbrev Answers : List Deed → ℕ → List ℕ → List ℕ → Reply → List ℕ → List ℕ → Type 0
+Answers ds t listed contents a listed' contents' =
+    let rows = listIn (history ds .commitments) t in
+    Shows rows (withRoom (timeRefused t (history ds) 0) (length rows) (length listed)) listed contents a listed' contents'
+
+-- Lawful deeds that differ in checkpoints alone: at every time from low on, of both, their histories have the same list, and refuse the same times.
+module _ {ds ds' : List Deed} (ok : Lawful ds) (ok' : Lawful ds') (same : withoutCheckpoints ds ≡ withoutCheckpoints ds') where
   same-commitments : history ds .commitments ≡ history ds' .commitments
   same-commitments =
       ap (λ (h : History). h .commitments) (only-low ds)
@@ -77,11 +84,24 @@ module _ {room room' : ℕ → Type 0} {ds ds' : List Deed} {since since' : ℕ}
       ∙ sym (ap (λ (h : History). h .commitments) (only-low ds'))
 
   same-last : lastIn (history ds) ≡ lastIn (history ds')
-  same-last =
-      last-commit (tie r .lawful)
-      ∙ ap (λ (l : List Deed). latest 0 (history l .commitments)) same
-      ∙ sym (last-commit (tie r' .lawful))
+  same-last = last-commit ok ∙ ap (λ (l : List Deed). latest 0 (history l .commitments)) same ∙ sym (last-commit ok')
 
+  -- so what shows the one list is what shows the other
+  shown-alike : (t : ℕ) → history ds .low ≤ t → history ds' .low ≤ t → (listed contents : List ℕ) (a b : Reply) (listed₁ contents₁ listed₂ contents₂ : List ℕ)
+      → Answers ds t listed contents a listed₁ contents₁ → Answers ds' t listed contents b listed₂ contents₂
+      → (a ≡ b) × (listed₁ ≡ listed₂) × (contents₁ ≡ contents₂)
+  shown-alike t old old' listed contents a b listed₁ contents₁ listed₂ contents₂ u v =
+      let rows = listIn (history ds .commitments) t in
+      let rows' = listIn (history ds' .commitments) t in
+      let e : rows' ≡ rows = ap (λ (cs : List Commitment). listIn cs t) (sym same-commitments) in
+      let f : timeRefused t (history ds') 0 ≡ timeRefused t (history ds) 0 = rw (le-ltb t (history ds .low) old, le-ltb t (history ds' .low) old', same-last) in
+      shows-alike rows (withRoom (timeRefused t (history ds) 0) (length rows) (length listed)) listed contents a listed₁ contents₁ b listed₂ contents₂ u
+      (shows-same rows' rows (withRoom (timeRefused t (history ds') 0) (length rows') (length listed)) _ listed contents b listed₂ contents₂ (rw (f, e)) (λ z. e) v)
+
+-- The same sequence with and without checkpoints: two stores reached with deeds that differ in checkpoints alone. At every time from low on, of both,
+-- they answer a list alike: number, count and rows.
+module _ {room room' : ℕ → Type 0} {ds ds' : List Deed} {since since' : ℕ} {x x' : Cells} (r : Reached room ds since x) (r' : Reached room' ds' since' x')
+    (same : withoutCheckpoints ds ≡ withoutCheckpoints ds') where
   pub checkpoint-is-silent : (keys values journal keys' values' journal' : List ℕ) → Lent x (end x) keys values journal
       → Lent x' (end x') keys' values' journal' → (t : ℕ) → history ds .low ≤ t → history ds' .low ≤ t
       → (listed contents : List ℕ) → length listed ≡ length contents → (a b : Reply) (listed₁ contents₁ listed₂ contents₂ : List ℕ)
@@ -89,15 +109,35 @@ module _ {room room' : ℕ → Type 0} {ds ds' : List Deed} {since since' : ℕ}
       → ListedBy (x' .head) keys' values' journal' t listed contents b listed₂ contents₂
       → (a ≡ b) × (listed₁ ≡ listed₂) × (contents₁ ≡ contents₂)
   checkpoint-is-silent keys values journal keys' values' journal' l l' t old old' listed contents p a b listed₁ contents₁ listed₂ contents₂ u v =
-      let rows = listIn (history ds .commitments) t in
-      let rows' = listIn (history ds' .commitments) t in
-      let e : rows' ≡ rows = ap (λ (cs : List Commitment). listIn cs t) (sym same-commitments) in
-      let f : timeRefused t (history ds') 0 ≡ timeRefused t (history ds) 0 = rw (le-ltb t (history ds .low) old, le-ltb t (history ds' .low) old', same-last) in
-      shows-alike rows (withRoom (timeRefused t (history ds) 0) (length rows) (length listed)) listed contents a listed₁ contents₁ b listed₂ contents₂
+      shown-alike (accepted-is-lawful r) (accepted-is-lawful r') same t old old' listed contents a b listed₁ contents₁ listed₂ contents₂
       (list-answers r keys values journal l t listed contents p a listed₁ contents₁ u)
-      (shows-same rows' rows (withRoom (timeRefused t (history ds') 0) (length rows') (length listed)) _ listed contents b listed₂ contents₂
-      (rw (f, e)) (λ z. e)
-      (list-answers r' keys' values' journal' l' t listed contents p b listed₂ contents₂ v))
+      (list-answers r' keys' values' journal' l' t listed contents p b listed₂ contents₂ v)
+
+-- The same of two map stores.
+module _ {ds ds' : List Deed} {m m' : MapCells} (r : MapReached ds m) (r' : MapReached ds' m') (same : withoutCheckpoints ds ≡ withoutCheckpoints ds') where
+  pub map-checkpoint-is-silent : (ks ts vs ks' ts' vs' : List ℕ) → MapLent m ks ts vs → MapLent m' ks' ts' vs' → (t : ℕ) → history ds .low ≤ t
+      → history ds' .low ≤ t → (listed contents : List ℕ) → length listed ≡ length contents → (a b : Reply) (listed₁ contents₁ listed₂ contents₂ : List ℕ)
+      → ListedAt t (m .head) ks ts vs listed contents a listed₁ contents₁
+      → ListedAt t (m' .head) ks' ts' vs' listed contents b listed₂ contents₂
+      → (a ≡ b) × (listed₁ ≡ listed₂) × (contents₁ ≡ contents₂)
+  map-checkpoint-is-silent ks ts vs ks' ts' vs' l l' t old old' listed contents p a b listed₁ contents₁ listed₂ contents₂ u v =
+      shown-alike (map-accepted-is-lawful r) (map-accepted-is-lawful r') same t old old' listed contents a b listed₁ contents₁ listed₂ contents₂
+      (map-list-answers r ks ts vs l t listed contents p a listed₁ contents₁ u)
+      (map-list-answers r' ks' ts' vs' l' t listed contents p b listed₂ contents₂ v)
+
+-- And of a journal store and a map store, where one of them took checkpoints that the other refused or was not given.
+module _ {room : ℕ → Type 0} {ds ds' : List Deed} {since : ℕ} {x : Cells} {m : MapCells} (r : Reached room ds since x) (r' : MapReached ds' m)
+    (same : withoutCheckpoints ds ≡ withoutCheckpoints ds') where
+  pub stores-list-alike-between-checkpoints : (keys values journal ks ts vs : List ℕ) → Lent x (end x) keys values journal → MapLent m ks ts vs → (t : ℕ)
+      → history ds .low ≤ t → history ds' .low ≤ t → (listed contents : List ℕ) → length listed ≡ length contents
+      → (a b : Reply) (listed₁ contents₁ listed₂ contents₂ : List ℕ)
+      → ListedBy (x .head) keys values journal t listed contents a listed₁ contents₁
+      → ListedAt t (m .head) ks ts vs listed contents b listed₂ contents₂
+      → (a ≡ b) × (listed₁ ≡ listed₂) × (contents₁ ≡ contents₂)
+  stores-list-alike-between-checkpoints keys values journal ks ts vs l l' t old old' listed contents p a b listed₁ contents₁ listed₂ contents₂ u v =
+      shown-alike (accepted-is-lawful r) (map-accepted-is-lawful r') same t old old' listed contents a b listed₁ contents₁ listed₂ contents₂
+      (list-answers r keys values journal l t listed contents p a listed₁ contents₁ u)
+      (map-list-answers r' ks ts vs l' t listed contents p b listed₂ contents₂ v)
 
 -- a call that is not refused, is not refused without the checkpoints
 silent-call : {ds : List Deed} → Lawful ds → (c : Call) → refusalIn (Did c) (history ds) ≡ 0 → refusalIn (Did c) (history (withoutCheckpoints ds)) ≡ 0
@@ -121,4 +161,4 @@ lawful-without (went {d = Checkpointed t} {ds = ds} ok e) = lawful-without ok
 
 -- Without the checkpoints the rules refuse none of the calls that a store accepted with them.
 pub silent-calls : {room : ℕ → Type 0} {ds : List Deed} {since : ℕ} {x : Cells} → Reached room ds since x → Lawful (withoutCheckpoints ds)
-silent-calls r = lawful-without (tie r .lawful)
+silent-calls r = lawful-without (accepted-is-lawful r)

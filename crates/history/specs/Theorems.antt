@@ -1,30 +1,31 @@
 -- The demands, for a reader: each theorem with its whole signature; the proofs are in the files that are named. What has to be believed stands in
--- History and Refusals (what the user's words mean), Cells and MapCells (what a sequence of calls is), and in the contracts that these cite.
--- Assumes nothing.
+-- History, Refusals and Lawful (what the user's words mean), Cells and MapCells (what a sequence of calls is), withoutCheckpoints (Silence), the contracts
+-- that these cite, and what the history shares with the rules: applied, listed, among and withRoom. Assumes nothing.
 use mathlib.Core.Path.{_≡_}
 use mathlib.Core.Bool.{true}
 use mathlib.Core.List.{List, _∷_}
 use mathlib.Core.Logic.{_≢_}
-use Prim.Native.Nat.{ℕ, _≤_}
-use lib.ListN.{length}
+use Prim.Native.Nat.{ℕ, _*_, _≤_}
+use lib.ListN.{length, drop}
 use Rattle.rules.specs.declared.Value.the-variants.{Absent, Present}
 use Rattle.rules.specs.declared.Effect.the-variants.{Assign}
+use Rattle.rules.specs.Kinds.{recordBytes}
 use Rattle.rules.specs.Lists.{among}
-use Rattle.rules.specs.Calls.{Call, Update, Abort, Commit}
+use Rattle.rules.specs.Calls.{Call, Update, Abort, Commit, withRoom}
 use Rattle.record.specs.Bytes.{Bytes}
 use Rattle.answer.specs.Reply.{Reply, accepted, told}
 use Rattle.journal_store.specs.declared.Head.{Head}
-use Rattle.journal_store.specs.Shape.{roomOf}
-use Rattle.journal_store.specs.Write.{number, Wrote}
+use Rattle.journal_store.specs.Shape.{roomOf, rowRoom}
+use Rattle.journal_store.specs.Write.{Wrote}
 use Rattle.journal_store.specs.Read.{readDecided, lookupDecided, shapedReply}
 use Rattle.journal_store.specs.List.{ListedBy}
 use Rattle.journal_store.specs.Recover.{Recovered}
 use Rattle.map_store.specs.declared.MapHead.{MapHead}
 use Rattle.map_store.specs.Contracts.{readReply, lookupReply, ListedAt}
-use Rattle.history.specs.History.{Deed, Did, numbers, history, restarted, valueIn, reads, listIn}
-use Rattle.history.specs.Refusals.{lastIn, givesIn, deedGives, numberIn, mapNumberIn, lookupNumber, readNumber}
+use Rattle.history.specs.History.{Deed, Did, Checkpointed, numbers, history, restarted, valueIn, reads, listIn}
+use Rattle.history.specs.Refusals.{lastIn, givesIn, deedGives, numberIn, mapNumberIn, lookupNumber, readNumber, timeRefused, refusalIn}
 use Rattle.history.specs.Lawful.{Lawful}
-use Rattle.history.specs.Cells.{Cells, end, Lent, Registers, Cut, lost, counting, Reached}
+use Rattle.history.specs.Cells.{Cells, end, Lent, Shows, Registers, Cut, lost, counting, Reached}
 use Rattle.history.specs.MapCells.{MapCells, MapLent, Does, MapReached}
 use Rattle.history.specs.Silence.{withoutCheckpoints}
 use Rattle.history.specs.Demands as demands
@@ -34,6 +35,7 @@ use Rattle.history.specs.Endings as endings
 use Rattle.history.specs.Silence as silence
 use Rattle.history.specs.Corollaries as corollaries
 use Rattle.map_store.specs.Shape as shape
+use Rattle.journal_store.specs.Checkpoint as checkpoint
 
 -- DEMAND 1. Every call answers for all inputs, and by the stores' Unique in one way alone; a refused call changes nothing it was lent. The other calls
 -- of both stores are in Corollaries.
@@ -62,6 +64,12 @@ pub map-answers : {ds : List Deed} {m : MapCells} → MapReached ds m → (ks ts
     {ks' ts' vs' : List ℕ} → Does (m .head) ks ts vs a head d ks' ts' vs'
     → a ≡ told (mapNumberIn (m .head .used) (shape.roomOf (length ks)) d (history ds)) (deedGives d (history ds))
 map-answers = map.map-answers
+
+pub checkpoint-answers : {room : ℕ → Type 0} {ds : List Deed} {since : ℕ} {x : Cells} → Reached room ds since x → (keys values journal : List ℕ)
+    → Lent x (end x) keys values journal → (T : ℕ) (a : Reply) (head : Head) (keys' values' journal' : List ℕ)
+    → checkpoint.Checkpointed T (x .head) keys values journal a head keys' values' journal'
+    → a ≡ told (withRoom (refusalIn (Checkpointed T) (history ds)) (length (listIn (history ds .commitments) T)) (rowRoom (length keys))) Absent
+checkpoint-answers = demands.checkpoint-answers
 
 -- DEMAND 2. A value looked up is the history's, at every time; a value read has the reader's own changes besides.
 pub looks-up-the-history : {room : ℕ → Type 0} {ds : List Deed} {since : ℕ} {x : Cells} → Reached room ds since x → (keys values journal : List ℕ)
@@ -106,6 +114,20 @@ pub map-every-listing : {ds : List Deed} {m : MapCells} → MapReached ds m → 
     → (n : ℕ) × (a ≡ accepted (Present n)) × Registers (history ds .commitments) t n listed' contents'
 map-every-listing = map.map-every-listing
 
+-- Lists at other times and with less room get the history's number; rows beyond the count keep what they hold.
+pub list-answers : {room : ℕ → Type 0} {ds : List Deed} {since : ℕ} {x : Cells} → Reached room ds since x → (keys values journal : List ℕ)
+    → Lent x (end x) keys values journal → (t : ℕ) (listed contents : List ℕ) → length listed ≡ length contents → (a : Reply) (listed' contents' : List ℕ)
+    → ListedBy (x .head) keys values journal t listed contents a listed' contents'
+    → Shows (listIn (history ds .commitments) t)
+    (withRoom (timeRefused t (history ds) 0) (length (listIn (history ds .commitments) t)) (length listed)) listed contents a listed' contents'
+list-answers = demands.list-answers
+
+pub map-list-answers : {ds : List Deed} {m : MapCells} → MapReached ds m → (ks ts vs : List ℕ) → MapLent m ks ts vs → (t : ℕ) (listed contents : List ℕ)
+    → length listed ≡ length contents → (a : Reply) (listed' contents' : List ℕ) → ListedAt t (m .head) ks ts vs listed contents a listed' contents'
+    → Shows (listIn (history ds .commitments) t)
+    (withRoom (timeRefused t (history ds) 0) (length (listIn (history ds .commitments) t)) (length listed)) listed contents a listed' contents'
+map-list-answers = map.map-list-answers
+
 -- As if no checkpoint had been taken: two stores whose accepted deeds differ in checkpoints alone list alike, and without the checkpoints the rules refuse
 -- none of the calls.
 pub checkpoint-is-silent : {room room' : ℕ → Type 0} {ds ds' : List Deed} {since since' : ℕ} {x x' : Cells} → Reached room ds since x
@@ -129,7 +151,26 @@ pub stores-list-alike : {room : ℕ → Type 0} {ds : List Deed} {since : ℕ} {
     → (a ≡ a') × (listed₁ ≡ listed₂) × (contents₁ ≡ contents₂)
 stores-list-alike = map.stores-list-alike
 
--- And it goes on being given the same: call by call both answer the same, unless one of them has no room.
+-- It accepts each call that a journal store accepted, unless it has no room: what a store accepted is lawful.
+pub accepted-is-lawful : {room : ℕ → Type 0} {ds : List Deed} {since : ℕ} {x : Cells} → Reached room ds since x → Lawful ds
+accepted-is-lawful = demands.accepted-is-lawful
+
+pub the-map-accepts : {ds : List Deed} {m : MapCells} → MapReached ds m → (ks ts vs : List ℕ) → MapLent m ks ts vs → {d : Deed} → Lawful (d ∷ ds)
+    → (a : Reply) (head : MapHead) {ks' ts' vs' : List ℕ} → Does (m .head) ks ts vs a head d ks' ts' vs' → a .number ≢ 12
+    → a ≡ told 0 (deedGives d (history ds))
+the-map-accepts = map.the-map-accepts
+
+-- Where one of them took checkpoints that the other refused or was not given, they list alike from both lows on.
+pub stores-list-alike-between-checkpoints : {room : ℕ → Type 0} {ds ds' : List Deed} {since : ℕ} {x : Cells} {m : MapCells} → Reached room ds since x
+    → MapReached ds' m → withoutCheckpoints ds ≡ withoutCheckpoints ds' → (keys values journal ks ts vs : List ℕ) → Lent x (end x) keys values journal
+    → MapLent m ks ts vs → (t : ℕ) → history ds .low ≤ t → history ds' .low ≤ t → (listed contents : List ℕ) → length listed ≡ length contents
+    → (a b : Reply) (listed₁ contents₁ listed₂ contents₂ : List ℕ)
+    → ListedBy (x .head) keys values journal t listed contents a listed₁ contents₁
+    → ListedAt t (m .head) ks ts vs listed contents b listed₂ contents₂
+    → (a ≡ b) × (listed₁ ≡ listed₂) × (contents₁ ≡ contents₂)
+stores-list-alike-between-checkpoints = silence.stores-list-alike-between-checkpoints
+
+-- Call by call both answer the same number and transaction number, unless one of them has no room.
 pub stores-answer-alike : {room : ℕ → Type 0} {ds : List Deed} {since : ℕ} {x : Cells} → Reached room ds since x → (keys values journal : List ℕ)
     → Lent x (end x) keys values journal → {m : MapCells} → MapReached ds m → (ks ts vs : List ℕ) → MapLent m ks ts vs → (c : Call) (a a' : Reply)
     (head : Head) (journal' : List ℕ) (head' : MapHead) {ks' ts' vs' : List ℕ} → Wrote c (x .head) keys values journal a head journal'
@@ -149,14 +190,28 @@ pub the-cut-goes-on : {room : ℕ → Type 0} {ds : List Deed} {since : ℕ} {x 
     → Reached room (restarted (lost x survived) ds) 0 (record { head = head; keys = keys; values = values; journal = journal' })
 the-cut-goes-on = restarts.the-cut-goes-on
 
+pub the-cut-looks-up : {room : ℕ → Type 0} {ds : List Deed} {since : ℕ} {x : Cells} → Reached room ds since x → (survived : ℕ) → Cut x since survived
+    → (keys values journal : List ℕ) → Lent x survived keys values journal → Bytes journal → (used : ℕ) (a : Reply) (head : Head) (journal' : List ℕ)
+    → Recovered (counting used (x .head)) keys values journal survived a head journal' → (keys₁ values₁ journal₁ : List ℕ)
+    → Lent (record { head = head; keys = keys; values = values; journal = journal' }) (head .journal .used * recordBytes) keys₁ values₁ journal₁ → (k t : ℕ)
+    → shapedReply head keys₁ values₁ journal₁ (lookupDecided k t)
+    ≡ told (lookupNumber k t (history (drop (lost x survived) ds))) (valueIn (history (drop (lost x survived) ds) .commitments) t k)
+the-cut-looks-up = restarts.the-cut-looks-up
+
 -- RULE 3.11. With the same lent room throughout, a running transaction can always be ended by abort, and a commit never gets 12.
 pub ending-is-possible : (bytes : ℕ) {ds : List Deed} {since : ℕ} {x : Cells} → Reached (λ n. n ≡ bytes) ds since x → (keys values journal : List ℕ)
     → Lent x (end x) keys values journal → length journal ≡ bytes → (n : ℕ) → among n (numbers (history ds .runners)) ≡ true
-    → number (Abort n) (x .head) keys values journal ≡ 0
+    → (a : Reply) (head : Head) (journal' : List ℕ) → Wrote (Abort n) (x .head) keys values journal a head journal' → a ≡ accepted Absent
 ending-is-possible = endings.ending-is-possible
 
+pub abort-never-12 : (bytes : ℕ) {ds : List Deed} {since : ℕ} {x : Cells} → Reached (λ n. n ≡ bytes) ds since x → (keys values journal : List ℕ)
+    → Lent x (end x) keys values journal → length journal ≡ bytes → (n : ℕ) (a : Reply) (head : Head) (journal' : List ℕ)
+    → Wrote (Abort n) (x .head) keys values journal a head journal' → a .number ≢ 12
+abort-never-12 = endings.abort-never-12
+
 pub commit-never-12 : (bytes : ℕ) {ds : List Deed} {since : ℕ} {x : Cells} → Reached (λ n. n ≡ bytes) ds since x → (keys values journal : List ℕ)
-    → Lent x (end x) keys values journal → length journal ≡ bytes → (n t : ℕ) → number (Commit n t) (x .head) keys values journal ≢ 12
+    → Lent x (end x) keys values journal → length journal ≡ bytes → (n t : ℕ) (a : Reply) (head : Head) (journal' : List ℕ)
+    → Wrote (Commit n t) (x .head) keys values journal a head journal' → a .number ≢ 12
 commit-never-12 = endings.commit-never-12
 
 -- NO TRIVIAL STORE. A committed assign is looked up.

@@ -19,7 +19,7 @@ use Rattle.rules.specs.Lists.{among}
 use Rattle.rules.specs.Calls.{Store, updated, Begin, push}
 use Rattle.rules.specs.Bools.{split, not-both, and-false}
 use Rattle.rules.specs.Running.{without, running-skip, running-end, runs-skip, running-runs}
-use Rattle.history.specs.History.{Change, Commitment, Runner, History, Deed, Did, numbers, changesOf, snapshotOf, changed, ended, recalled, told, making, valueIn, latest}
+use Rattle.history.specs.History.{Change, Commitment, Runner, History, Deed, Did, numbers, changesOf, snapshotOf, changed, ended, recalled, withDeed, making, valueIn, latest}
 use Rattle.history.specs.GoodLaws.{fresh}
 use Rattle.history.specs.Replayed.{replayed}
 use Rattle.history.specs.Allowed.{Allowed, may-begin, may-update, may-abort, may-commit, may-checkpoint}
@@ -211,7 +211,7 @@ module _ (h : History) (s : Store) (w : Sound s) (t : Tells h s) where
         }
 
   -- one deed more
-  pub tells-deed : {d : Deed} → Allowed s d → Tells (told d h) (replayed d s)
+  pub tells-deed : {d : Deed} → Allowed s d → Tells (withDeed d h) (replayed d s)
   tells-deed (may-begin u p q x y) = tells-begin u
   tells-deed (may-update n k e p q x) =
       let w = writing n k e in

@@ -1,4 +1,5 @@
--- Values over a base that holds what stood at low: commits at or before low are passed over, so records may stay when the base moves. Assumes nothing.
+-- Values over a base that holds what stood at low: commits at or before low are passed over. So the proof of a
+-- checkpoint is two: the base moves and all records stay, then records go. Assumes nothing.
 use mathlib.Core.Path.{_≡_, refl, _∙_}
 use mathlib.Core.Bool.{Bool, cond}
 use mathlib.Core.List.{List, [], _∷_}
