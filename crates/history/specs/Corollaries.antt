@@ -29,6 +29,7 @@ use Rattle.history.specs.Silence.{latest-low}
 use Rattle.history.specs.Cells.{Cells, end, Lent, Shows, Reached}
 use Rattle.history.specs.Told.{changed-own}
 use Rattle.history.specs.Demands.{accepted-is-lawful, journal-lists-the-history, looks-up-the-history}
+use Rattle.versions.specs.Versions.{Columns}
 use Rattle.map_store.specs.declared.MapHead.{MapHead}
 use Rattle.map_store.specs.Contracts.{readReply, lookupReply, ListedAt}
 use Rattle.history.specs.MapCells.{MapCells, MapLent, Does, begins, updates, aborts, commits, checkpoints, MapReached}
@@ -107,23 +108,23 @@ module _ {room : ℕ → Type 0} {ds : List Deed} {since : ℕ} {x : Cells} (n k
       let y = timely n k v t ok in
       (journal-lists-the-history r keys values journal l t (y .0) (y .1) listed contents p fits a listed' contents' w, row n k v t ok)
 
-module _ {ds : List Deed} {m : MapCells} (n k v t : ℕ) (r : MapReached (Did (Commit n t) ∷ Did (Update n k (Assign v)) ∷ ds) m) (ks ts vs : List ℕ)
-    (l : MapLent m ks ts vs) where
+module _ {ds : List Deed} {m : MapCells} (n k v t : ℕ) (r : MapReached (Did (Commit n t) ∷ Did (Update n k (Assign v)) ∷ ds) m) (cs : Columns)
+    (l : MapLent m cs) where
   abbrev map-rows : List Row
   map-rows = listIn (history (Did (Commit n t) ∷ Did (Update n k (Assign v)) ∷ ds) .commitments) t
 
-  pub the-map-looks-up-a-committed-assign : lookupReply k t (m .head) ks ts vs ≡ accepted (Present v)
+  pub the-map-looks-up-a-committed-assign : lookupReply k t (m .head) cs ≡ accepted (Present v)
   the-map-looks-up-a-committed-assign =
       let ok = map-accepted-is-lawful r in
-      map-looks-up-the-history r ks ts vs l k t ∙ rw (answered n k v t ok, assigned n k v t ok)
+      map-looks-up-the-history r cs l k t ∙ rw (answered n k v t ok, assigned n k v t ok)
 
   pub the-map-lists-a-committed-assign : (listed contents : List ℕ) → length listed ≡ length contents → length map-rows ≤ length listed
-      → (a : Reply) (listed' contents' : List ℕ) → ListedAt t (m .head) ks ts vs listed contents a listed' contents'
+      → (a : Reply) (listed' contents' : List ℕ) → ListedAt t (m .head) cs listed contents a listed' contents'
       → Shows map-rows 0 listed contents a listed' contents' × (rowValue map-rows k ≡ Present v)
   the-map-lists-a-committed-assign listed contents p fits a listed' contents' w =
       let ok = map-accepted-is-lawful r in
       let y = timely n k v t ok in
-      (map-lists r ks ts vs l t (y .0) (y .1) listed contents p fits a listed' contents' w, row n k v t ok)
+      (map-lists r cs l t (y .0) (y .1) listed contents p fits a listed' contents' w, row n k v t ok)
 
 -- A refused call returns the head that it got and leaves every lent cell, in any store, also a damaged one.
 kept : {A : Type 0} (m n : ℕ) (new old : A) → m ≡ n → m ≢ 0 → after n new old ≡ old
@@ -158,27 +159,27 @@ a-refused-list-changes-nothing t h keys values j listed contents a listed' conte
     (w .keys-column ∙ kept (a .number) n _ listed p f, w .values-column ∙ kept (a .number) n _ contents p f)
 
 -- So does every call of the map store; its lookups and reads, as the journal store's, are lent nothing that they could change.
-pub a-refused-map-call-changes-nothing : {d : Deed} (h : MapHead) (ks ts vs : List ℕ) (a : Reply) (head : MapHead) {ks' ts' vs' : List ℕ}
-    → Does h ks ts vs a head d ks' ts' vs' → a .number ≢ 0 → (head ≡ h) × (ks' ≡ ks) × (ts' ≡ ts) × (vs' ≡ vs)
-a-refused-map-call-changes-nothing h ks ts vs a head (begins t w) f =
-    (w .headed ∙ kept (a .number) (contract.number (Begin t) h ks ts vs) _ h (ap (λ (r : Reply). r .number) (w .reply)) f, refl, refl, refl)
-a-refused-map-call-changes-nothing h ks ts vs a head (updates n k e w) f =
-    (w .headed ∙ kept (a .number) (contract.number (Update n k e) h ks ts vs) _ h (ap (λ (r : Reply). r .number) (w .reply)) f, refl, refl, refl)
-a-refused-map-call-changes-nothing h ks ts vs a head (aborts n w) f =
-    (w .headed ∙ kept (a .number) (contract.number (Abort n) h ks ts vs) _ h (ap (λ (r : Reply). r .number) (w .reply)) f, refl, refl, refl)
-a-refused-map-call-changes-nothing h ks ts vs a head (commits n t ks' ts' vs' w) f =
-    let i = contract.number (Commit n t) h ks ts vs in
+pub a-refused-map-call-changes-nothing : {d : Deed} (h : MapHead) (cs : Columns) (a : Reply) (head : MapHead) {cs' : Columns}
+    → Does h cs a head d cs' → a .number ≢ 0 → (head ≡ h) × (cs' ≡ cs)
+a-refused-map-call-changes-nothing h cs a head (begins t w) f =
+    (w .headed ∙ kept (a .number) (contract.number (Begin t) h cs) _ h (ap (λ (r : Reply). r .number) (w .reply)) f, refl)
+a-refused-map-call-changes-nothing h cs a head (updates n k e w) f =
+    (w .headed ∙ kept (a .number) (contract.number (Update n k e) h cs) _ h (ap (λ (r : Reply). r .number) (w .reply)) f, refl)
+a-refused-map-call-changes-nothing h cs a head (aborts n w) f =
+    (w .headed ∙ kept (a .number) (contract.number (Abort n) h cs) _ h (ap (λ (r : Reply). r .number) (w .reply)) f, refl)
+a-refused-map-call-changes-nothing h cs a head (commits n t cs' w) f =
+    let i = contract.number (Commit n t) h cs in
     let p = ap (λ (r : Reply). r .number) (w .answered .reply) in
-    (w .answered .headed ∙ kept (a .number) i _ h p f, w .keys ∙ kept (a .number) i _ ks p f, w .times ∙ kept (a .number) i _ ts p f, w .values ∙ kept (a .number) i _ vs p f)
-a-refused-map-call-changes-nothing h ks ts vs a head (checkpoints T ks' ts' vs' w) f =
-    let i = contract.checkpointNumber T h ks ts vs in
+    (w .answered .headed ∙ kept (a .number) i _ h p f, w .cells ∙ kept (a .number) i _ cs p f)
+a-refused-map-call-changes-nothing h cs a head (checkpoints T cs' w) f =
+    let i = contract.checkpointNumber T h cs in
     let p = ap (λ (r : Reply). r .number) (w .reply) in
-    (w .headed ∙ kept (a .number) i _ h p f, w .keys ∙ kept (a .number) i _ ks p f, w .times ∙ kept (a .number) i _ ts p f, w .values ∙ kept (a .number) i _ vs p f)
+    (w .headed ∙ kept (a .number) i _ h p f, w .cells ∙ kept (a .number) i _ cs p f)
 
-pub a-refused-map-list-changes-nothing : (t : ℕ) (h : MapHead) (ks ts vs listed contents : List ℕ) (a : Reply) (listed' contents' : List ℕ)
-    → ListedAt t h ks ts vs listed contents a listed' contents' → a .number ≢ 0 → (listed' ≡ listed) × (contents' ≡ contents)
-a-refused-map-list-changes-nothing t h ks ts vs listed contents a listed' contents' w f =
-    let n = contract.listNumber t h ks ts vs listed contents in
+pub a-refused-map-list-changes-nothing : (t : ℕ) (h : MapHead) (cs : Columns) (listed contents : List ℕ) (a : Reply) (listed' contents' : List ℕ)
+    → ListedAt t h cs listed contents a listed' contents' → a .number ≢ 0 → (listed' ≡ listed) × (contents' ≡ contents)
+a-refused-map-list-changes-nothing t h cs listed contents a listed' contents' w f =
+    let n = contract.listNumber t h cs listed contents in
     let p = ap (λ (r : Reply). r .number) (w .reply) in
     (w .keys ∙ kept (a .number) n _ listed p f, w .values ∙ kept (a .number) n _ contents p f)
 
@@ -206,22 +207,22 @@ pub every-read-answers : (n k : ℕ) (h : Head) (keys values j : List ℕ) → (
 every-read-answers n k h keys values j = (_, refl)
 
 -- The map store's calls.
-pub every-map-call-answers : (d : Deed) (h : MapHead) (ks ts vs : List ℕ)
-    → (a : Reply) × (head : MapHead) × (ks' : List ℕ) × (ts' : List ℕ) × (vs' : List ℕ) × Does h ks ts vs a head d ks' ts' vs'
-every-map-call-answers (Did (Begin t)) h ks ts vs = (_, _, ks, ts, vs, begins t (record { reply = refl; headed = refl }))
-every-map-call-answers (Did (Update n k e)) h ks ts vs = (_, _, ks, ts, vs, updates n k e (record { reply = refl; headed = refl }))
-every-map-call-answers (Did (Abort n)) h ks ts vs = (_, _, ks, ts, vs, aborts n (record { reply = refl; headed = refl }))
-every-map-call-answers (Did (Commit n t)) h ks ts vs =
-    (_, _, _, _, _, commits n t _ _ _ (record { answered = record { reply = refl; headed = refl }; keys = refl; times = refl; values = refl }))
-every-map-call-answers (Checkpointed T) h ks ts vs =
-    (_, _, _, _, _, checkpoints T _ _ _ (record { reply = refl; headed = refl; keys = refl; times = refl; values = refl }))
+pub every-map-call-answers : (d : Deed) (h : MapHead) (cs : Columns)
+    → (a : Reply) × (head : MapHead) × (cs' : Columns) × Does h cs a head d cs'
+every-map-call-answers (Did (Begin t)) h cs = (_, _, cs, begins t (record { reply = refl; headed = refl }))
+every-map-call-answers (Did (Update n k e)) h cs = (_, _, cs, updates n k e (record { reply = refl; headed = refl }))
+every-map-call-answers (Did (Abort n)) h cs = (_, _, cs, aborts n (record { reply = refl; headed = refl }))
+every-map-call-answers (Did (Commit n t)) h cs =
+    (_, _, _, commits n t _ (record { answered = record { reply = refl; headed = refl }; cells = refl }))
+every-map-call-answers (Checkpointed T) h cs =
+    (_, _, _, checkpoints T _ (record { reply = refl; headed = refl; cells = refl }))
 
-pub every-map-list-answers : (t : ℕ) (h : MapHead) (ks ts vs listed contents : List ℕ)
-    → (a : Reply) × (listed' : List ℕ) × (contents' : List ℕ) × ListedAt t h ks ts vs listed contents a listed' contents'
-every-map-list-answers t h ks ts vs listed contents = (_, _, _, record { reply = refl; keys = refl; values = refl })
+pub every-map-list-answers : (t : ℕ) (h : MapHead) (cs : Columns) (listed contents : List ℕ)
+    → (a : Reply) × (listed' : List ℕ) × (contents' : List ℕ) × ListedAt t h cs listed contents a listed' contents'
+every-map-list-answers t h cs listed contents = (_, _, _, record { reply = refl; keys = refl; values = refl })
 
-pub every-map-lookup-answers : (k t : ℕ) (h : MapHead) (ks ts vs : List ℕ) → (a : Reply) × (a ≡ lookupReply k t h ks ts vs)
-every-map-lookup-answers k t h ks ts vs = (_, refl)
+pub every-map-lookup-answers : (k t : ℕ) (h : MapHead) (cs : Columns) → (a : Reply) × (a ≡ lookupReply k t h cs)
+every-map-lookup-answers k t h cs = (_, refl)
 
-pub every-map-read-answers : (n k : ℕ) (h : MapHead) (ks ts vs : List ℕ) → (a : Reply) × (a ≡ readReply n k h ks ts vs)
-every-map-read-answers n k h ks ts vs = (_, refl)
+pub every-map-read-answers : (n k : ℕ) (h : MapHead) (cs : Columns) → (a : Reply) × (a ≡ readReply n k h cs)
+every-map-read-answers n k h cs = (_, refl)

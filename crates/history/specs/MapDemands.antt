@@ -17,6 +17,7 @@ use Rattle.rules.specs.Calls.{Call, Begin, Update, Abort, Commit, withRoom}
 use Rattle.rules.specs.declared.Value.the-variants.{Present}
 use Rattle.answer.specs.Reply.{Reply, accepted, told}
 use Rattle.slot.specs.Places.{Place, free, taken, placeOf}
+use Rattle.versions.specs.Versions.{Columns}
 use Rattle.versions.specs.Laws.{length-versions}
 use Rattle.journal_store.specs.declared.Head.{Head}
 use Rattle.journal_store.specs.Shape.{roomOf}
@@ -56,24 +57,24 @@ unknown-first false others = refl
 pub map-accepted-is-lawful : {ds : List Deed} {m : MapCells} → MapReached ds m → Lawful ds
 map-accepted-is-lawful r = map-meant r .lawful
 
-module _ {ds : List Deed} {m : MapCells} (r : MapReached ds m) (ks ts vs : List ℕ) (l : MapLent m ks ts vs) where
+module _ {ds : List Deed} {m : MapCells} (r : MapReached ds m) (cs : Columns) (l : MapLent m cs) where
   ok : Lawful ds
   ok = map-accepted-is-lawful r
 
-  means : shape.meaning (m .head) ks ts vs ≡ mapped ds
-  means = let w = map-meant r in map-lent-meaning m (w .shaped) ks ts vs l ∙ w .means
+  means : shape.meaning (m .head) cs ≡ mapped ds
+  means = let w = map-meant r in map-lent-meaning m (w .shaped) cs l ∙ w .means
 
-  passes : (f : MapStore → ℕ) → shapedNumber (m .head) ks ts vs f ≡ f (mapped ds)
-  passes f = number-good (m .head) ks ts vs f (map-lent-passes m (map-meant r .shaped) ks ts vs l) ∙ ap f means
+  passes : (f : MapStore → ℕ) → shapedNumber (m .head) cs f ≡ f (mapped ds)
+  passes f = number-good (m .head) cs f (map-lent-passes m (map-meant r .shaped) cs l) ∙ ap f means
 
   -- LISTS. Whatever the time and the lent rows: the number that the history gives, and where it is 0 exactly the history's list.
   pub map-list-answers : (t : ℕ) (listed contents : List ℕ) → length listed ≡ length contents → (a : Reply) (listed' contents' : List ℕ)
-      → ListedAt t (m .head) ks ts vs listed contents a listed' contents'
+      → ListedAt t (m .head) cs listed contents a listed' contents'
       → Shows (listIn (history ds .commitments) t)
       (withRoom (timeRefused t (history ds) 0) (length (listIn (history ds .commitments) t)) (length listed)) listed contents a listed' contents'
   map-list-answers t listed contents p a listed' contents' w =
-      let number-is = contract.listNumber t (m .head) ks ts vs listed contents in
-      let shown = versions.listAt (versions.versionsOf (m .head .used) ks ts vs) t in
+      let number-is = contract.listNumber t (m .head) cs listed contents in
+      let shown = versions.listAt (versions.versionsOf (m .head .used) cs) t in
       let e : shown ≡ versions.listAt (mapped ds .versions) t = ap (λ (s : MapStore). versions.listAt (s .versions) t) means in
       let n : number-is ≡ map.listAnswer (length listed) t (mapped ds) = rw (eq-eqb (length listed) (length contents) p) (passes (map.listAnswer (length listed) t)) in
       let q = room-same (map.listRefusal t (mapped ds)) (timeRefused t (history ds) 0) (length (versions.listAt (mapped ds .versions) t))
@@ -86,7 +87,7 @@ module _ {ds : List Deed} {m : MapCells} (r : MapReached ds m) (ks ts vs : List 
   -- At every time from low to last a list with room enough is accepted, and gives exactly the history's list.
   pub map-lists : (t : ℕ) → history ds .low ≤ t → t ≤ lastIn (history ds) → (listed contents : List ℕ) → length listed ≡ length contents
       → length (listIn (history ds .commitments) t) ≤ length listed → (a : Reply) (listed' contents' : List ℕ)
-      → ListedAt t (m .head) ks ts vs listed contents a listed' contents'
+      → ListedAt t (m .head) cs listed contents a listed' contents'
       → Shows (listIn (history ds .commitments) t) 0 listed contents a listed' contents'
   map-lists t old new listed contents p fits a listed' contents' w =
       shows-same (listIn (history ds .commitments) t) (listIn (history ds .commitments) t) _ 0 listed contents a listed' contents'
@@ -96,25 +97,25 @@ module _ {ds : List Deed} {m : MapCells} (r : MapReached ds m) (ks ts vs : List 
   -- Demand 3, whole: a list with room enough has a count n, and exactly the history's registers in n rows.
   pub map-every-listing : (t : ℕ) → history ds .low ≤ t → t ≤ lastIn (history ds) → (listed contents : List ℕ) → length listed ≡ length contents
       → length (listIn (history ds .commitments) t) ≤ length listed → (a : Reply) (listed' contents' : List ℕ)
-      → ListedAt t (m .head) ks ts vs listed contents a listed' contents'
+      → ListedAt t (m .head) cs listed contents a listed' contents'
       → (n : ℕ) × (a ≡ accepted (Present n)) × Registers (history ds .commitments) t n listed' contents'
   map-every-listing t old new listed contents p fits a listed' contents' w =
       shown-registers (history ds .commitments) t listed contents p fits a listed' contents'
       (map-lists t old new listed contents p fits a listed' contents' w)
 
   -- VALUES. A lookup gives the number that the history gives, and where it is 0 the history's value.
-  pub map-looks-up-the-history : (k t : ℕ) → lookupReply k t (m .head) ks ts vs ≡ told (lookupNumber k t (history ds)) (valueIn (history ds .commitments) t k)
+  pub map-looks-up-the-history : (k t : ℕ) → lookupReply k t (m .head) cs ≡ told (lookupNumber k t (history ds)) (valueIn (history ds .commitments) t k)
   map-looks-up-the-history k t =
       let e = passes (map.lookupRefusal k t) ∙ ap (cond (eqb k 0) 3) (map-times ok t) in
-      told-same (shapedNumber (m .head) ks ts vs (map.lookupRefusal k t)) (lookupNumber k t (history ds))
-      (versions.valueAt k t (versions.versionsOf (m .head .used) ks ts vs)) (valueIn (history ds .commitments) t k) e
+      told-same (shapedNumber (m .head) cs (map.lookupRefusal k t)) (lookupNumber k t (history ds))
+      (versions.valueAt k t (versions.versionsOf (m .head .used) cs)) (valueIn (history ds .commitments) t k) e
       (λ z.
       let y = passed (eqb k 0) 3 (timeRefused t (history ds) 0) (omega arith) (sym e ∙ z) in
       let i = eqb-false k 0 (y .0) in
       ap (λ (s : MapStore). versions.valueAt k t (s .versions)) means ∙ map-value ok t k (omega arith) (y .1))
 
   -- READS. A read in a running transaction gives the history's value at its snapshot, then its own changes in order.
-  pub map-reads-the-history : (n k : ℕ) → readReply n k (m .head) ks ts vs ≡ told (readNumber n k (history ds)) (reads (history ds) n k)
+  pub map-reads-the-history : (n k : ℕ) → readReply n k (m .head) cs ≡ told (readNumber n k (history ds)) (reads (history ds) n k)
   map-reads-the-history n k =
       let f : abortRefusal (placeOf n (mapped ds .places)) ≡ unknownOr n (history ds) 0 = map-refuses ok (Did (Abort n)) in
       let g' : placeRefusal k (placeOf n (mapped ds .places)) ≡ readNumber n k (history ds) =
@@ -123,7 +124,7 @@ module _ {ds : List Deed} {m : MapCells} (r : MapReached ds m) (ks ts vs : List 
       ∙ unknown-first (among n (numbers (history ds .runners))) (cond (eqb k 0) 3 0)
       in
       let e = passes (map.readRefusal n k) ∙ g' in
-      told-same (shapedNumber (m .head) ks ts vs (map.readRefusal n k)) (readNumber n k (history ds)) (map.readIn n k (shape.meaning (m .head) ks ts vs))
+      told-same (shapedNumber (m .head) cs (map.readRefusal n k)) (readNumber n k (history ds)) (map.readIn n k (shape.meaning (m .head) cs))
       (reads (history ds) n k) e
       (λ z.
       let y = passed (not (among n (numbers (history ds .runners)))) 2 (cond (eqb k 0) 3 0) (omega arith) (sym e ∙ z) in
@@ -134,32 +135,32 @@ module _ {ds : List Deed} {m : MapCells} (r : MapReached ds m) (ks ts vs : List 
   -- CALLS. Begin, update, abort and commit get the number of section 6 that the history gives, and an accepted begin the next number; a commit alone needs
   -- room, a row for each key that it changed. A checkpoint needs none.
   used : length (mapped ds .versions) ≡ m .head .used
-  used = sym (ap (λ (s : MapStore). length (s .versions)) means) ∙ length-versions (m .head .used) ks ts vs
+  used = sym (ap (λ (s : MapStore). length (s .versions)) means) ∙ length-versions (m .head .used) cs
 
-  commit-number : (n t : ℕ) → mapAnswer (shape.roomOf (length ks)) (Commit n t) (mapped ds)
-      ≡ mapNumberIn (m .head .used) (shape.roomOf (length ks)) (Did (Commit n t)) (history ds)
+  commit-number : (n t : ℕ) → mapAnswer (shape.roomOf (length (cs .keys))) (Commit n t) (mapped ds)
+      ≡ mapNumberIn (m .head .used) (shape.roomOf (length (cs .keys))) (Did (Commit n t)) (history ds)
   commit-number n t =
       room-same (map.mapRefusal (Commit n t) (mapped ds)) (refusalIn (Did (Commit n t)) (history ds)) (length (mapped ds .versions) + length (rowsAt (placeOf n (mapped ds .places))))
-      (m .head .used + length (distinctKeys (changesOf n (history ds .runners)))) (shape.roomOf (length ks)) (map-refuses ok (Did (Commit n t)))
+      (m .head .used + length (distinctKeys (changesOf n (history ds .runners)))) (shape.roomOf (length (cs .keys))) (map-refuses ok (Did (Commit n t)))
       (λ z.
       let y = passed (not (among n (numbers (history ds .runners)))) 2 _ (omega arith) (sym (map-refuses ok (Did (Commit n t))) ∙ z) in
       rw (used, map-rows ok n (not-false (among n (numbers (history ds .runners))) (y .0))))
 
-  pub map-answers : {d : Deed} (a : Reply) (head : MapHead) {ks' ts' vs' : List ℕ} → Does (m .head) ks ts vs a head d ks' ts' vs'
-      → a ≡ told (mapNumberIn (m .head .used) (shape.roomOf (length ks)) d (history ds)) (deedGives d (history ds))
+  pub map-answers : {d : Deed} (a : Reply) (head : MapHead) {cs' : Columns} → Does (m .head) cs a head d cs'
+      → a ≡ told (mapNumberIn (m .head .used) (shape.roomOf (length (cs .keys))) d (history ds)) (deedGives d (history ds))
   map-answers a head (begins t w) =
-      let room = shape.roomOf (length ks) in
+      let room = shape.roomOf (length (cs .keys)) in
       w .reply ∙ rw (passes (mapAnswer room (Begin t)), map-refuses ok (Did (Begin t)), means, map-gives ok (Begin t))
   map-answers a head (updates n k e w) =
-      let room = shape.roomOf (length ks) in
+      let room = shape.roomOf (length (cs .keys)) in
       w .reply ∙ rw (passes (mapAnswer room (Update n k e)), map-refuses ok (Did (Update n k e)))
   map-answers a head (aborts n w) =
-      let room = shape.roomOf (length ks) in
+      let room = shape.roomOf (length (cs .keys)) in
       w .reply ∙ rw (passes (mapAnswer room (Abort n)), map-refuses ok (Did (Abort n)))
-  map-answers a head (commits n t ks' ts' vs' w) =
-      let room = shape.roomOf (length ks) in
+  map-answers a head (commits n t cs' w) =
+      let room = shape.roomOf (length (cs .keys)) in
       w .answered .reply ∙ rw (passes (mapAnswer room (Commit n t)), commit-number n t)
-  map-answers a head (checkpoints T ks' ts' vs' w) = w .reply ∙ rw (passes (map.checkpointRefusal T), map-refuses ok (Checkpointed T))
+  map-answers a head (checkpoints T cs' w) = w .reply ∙ rw (passes (map.checkpointRefusal T), map-refuses ok (Checkpointed T))
 
 -- a number that is not 12 is the number but for room
 but-for-room : (n wanted room : ℕ) → withRoom n wanted room ≢ 12 → withRoom n wanted room ≡ n
@@ -177,41 +178,41 @@ but-for-rows used room (Checkpointed t) h n = refl
 
 -- BOTH STORES. The map store, given the same calls: those that a journal store accepted and did not lose, with an abort for each transaction that a restart
 -- ended there. It accepts each of them, unless it has no room.
-module _ {ds : List Deed} {m : MapCells} (r : MapReached ds m) (ks ts vs : List ℕ) (l : MapLent m ks ts vs) where
-  pub the-map-accepts : {d : Deed} → Lawful (d ∷ ds) → (a : Reply) (head : MapHead) {ks' ts' vs' : List ℕ} → Does (m .head) ks ts vs a head d ks' ts' vs'
+module _ {ds : List Deed} {m : MapCells} (r : MapReached ds m) (cs : Columns) (l : MapLent m cs) where
+  pub the-map-accepts : {d : Deed} → Lawful (d ∷ ds) → (a : Reply) (head : MapHead) {cs' : Columns} → Does (m .head) cs a head d cs'
       → a .number ≢ 12 → a ≡ told 0 (deedGives d (history ds))
   the-map-accepts {d} (went ok e) a head w n =
-      let p = map-answers r ks ts vs l a head w in
-      let q = but-for-rows (m .head .used) (shape.roomOf (length ks)) d (history ds) (λ z. n (ap (λ (i : Reply). i .number) p ∙ z)) in
+      let p = map-answers r cs l a head w in
+      let q = but-for-rows (m .head .used) (shape.roomOf (length (cs .keys))) d (history ds) (λ z. n (ap (λ (i : Reply). i .number) p ∙ z)) in
       p ∙ ap (λ (i : ℕ). told i (deedGives d (history ds))) (q ∙ e)
 
 module _ {room : ℕ → Type 0} {ds : List Deed} {since : ℕ} {x : Cells} (j : Reached room ds since x) (keys values journal : List ℕ)
-    (b : Lent x (end x) keys values journal) {m : MapCells} (r : MapReached ds m) (ks ts vs : List ℕ) (l : MapLent m ks ts vs) where
+    (b : Lent x (end x) keys values journal) {m : MapCells} (r : MapReached ds m) (cs : Columns) (l : MapLent m cs) where
   -- They list the same: one answer, the same columns, at every time.
   pub stores-list-alike : (t : ℕ) (listed contents : List ℕ) → length listed ≡ length contents → (a a' : Reply) (listed₁ contents₁ listed₂ contents₂ : List ℕ)
       → ListedBy (x .head) keys values journal t listed contents a listed₁ contents₁
-      → ListedAt t (m .head) ks ts vs listed contents a' listed₂ contents₂
+      → ListedAt t (m .head) cs listed contents a' listed₂ contents₂
       → (a ≡ a') × (listed₁ ≡ listed₂) × (contents₁ ≡ contents₂)
   stores-list-alike t listed contents p a a' listed₁ contents₁ listed₂ contents₂ u v =
       shows-alike _ _ listed contents a listed₁ contents₁ a' listed₂ contents₂
       (list-answers j keys values journal b t listed contents p a listed₁ contents₁ u)
-      (map-list-answers r ks ts vs l t listed contents p a' listed₂ contents₂ v)
+      (map-list-answers r cs l t listed contents p a' listed₂ contents₂ v)
 
   -- They look up and read the same.
-  pub stores-look-up-alike : (k t : ℕ) → shapedReply (x .head) keys values journal (lookupDecided k t) ≡ lookupReply k t (m .head) ks ts vs
-  stores-look-up-alike k t = looks-up-the-history j keys values journal b k t ∙ sym (map-looks-up-the-history r ks ts vs l k t)
+  pub stores-look-up-alike : (k t : ℕ) → shapedReply (x .head) keys values journal (lookupDecided k t) ≡ lookupReply k t (m .head) cs
+  stores-look-up-alike k t = looks-up-the-history j keys values journal b k t ∙ sym (map-looks-up-the-history r cs l k t)
 
-  pub stores-read-alike : (n k : ℕ) → shapedReply (x .head) keys values journal (readDecided n k) ≡ readReply n k (m .head) ks ts vs
-  stores-read-alike n k = reads-the-history j keys values journal b n k ∙ sym (map-reads-the-history r ks ts vs l n k)
+  pub stores-read-alike : (n k : ℕ) → shapedReply (x .head) keys values journal (readDecided n k) ≡ readReply n k (m .head) cs
+  stores-read-alike n k = reads-the-history j keys values journal b n k ∙ sym (map-reads-the-history r cs l n k)
 
   -- Call by call they answer the same number and the same transaction number, unless one of them has no room: so they go on accepting the same calls.
-  pub stores-answer-alike : (c : Call) (a a' : Reply) (head : Head) (journal' : List ℕ) (head' : MapHead) {ks' ts' vs' : List ℕ}
-      → Wrote c (x .head) keys values journal a head journal' → Does (m .head) ks ts vs a' head' (Did c) ks' ts' vs'
+  pub stores-answer-alike : (c : Call) (a a' : Reply) (head : Head) (journal' : List ℕ) (head' : MapHead) {cs' : Columns}
+      → Wrote c (x .head) keys values journal a head journal' → Does (m .head) cs a' head' (Did c) cs'
       → a .number ≢ 12 → a' .number ≢ 12 → a ≡ a'
   stores-answer-alike c a a' head journal' head' u v one other =
       let h = history ds in
       let p = calls-answer j keys values journal b c a head journal' u in
-      let q = map-answers r ks ts vs l a' head' v in
+      let q = map-answers r cs l a' head' v in
       let e = but-for-room (refusalIn (Did c) h) (x .head .journal .used + needIn c h) (roomOf (length journal)) (λ z. one (ap (λ (i : Reply). i .number) p ∙ z)) in
-      let f = but-for-rows (m .head .used) (shape.roomOf (length ks)) (Did c) h (λ z. other (ap (λ (i : Reply). i .number) q ∙ z)) in
+      let f = but-for-rows (m .head .used) (shape.roomOf (length (cs .keys))) (Did c) h (λ z. other (ap (λ (i : Reply). i .number) q ∙ z)) in
       p ∙ ap (λ (n : ℕ). told n (givesIn c h)) (e ∙ sym f) ∙ sym q

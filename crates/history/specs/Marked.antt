@@ -14,7 +14,7 @@ use Rattle.record.specs.Bytes.{appended}
 use Rattle.answer.specs.Reply.{Reply, accepted, told, after}
 use Rattle.slot.specs.Slots.{slotOf, firstSlot, lowestFree}
 use Rattle.slot.specs.Places.{placesOf}
-use Rattle.versions.specs.Versions.{versionsOf}
+use Rattle.versions.specs.Versions.{columns, versionsOf}
 use Rattle.journal_store.specs.Shape.{emptyHead, grown}
 use Rattle.journal_store.specs.Write.{number, Wrote}
 use Rattle.journal_store.specs.Read.{lookupDecided, shapedReply}
@@ -53,8 +53,8 @@ journalAfter (c ∷ cs) = wrote c (journalAfter cs)
 -- what a begin, an update or an abort makes of a map store: no column changes
 abbrev noted : Call → MapCells → MapCells
 noted c x =
-    after (contract.number c (x .head) (x .keys) (x .times) (x .values))
-    (record { head = headAfter c (x .head) (versionsOf (x .head .used) (x .keys) (x .times) (x .values)); keys = x .keys; times = x .times; values = x .values })
+    after (contract.number c (x .head) (x .columns))
+    (record { head = headAfter c (x .head) (versionsOf (x .head .used) (x .columns)); columns = x .columns })
     x
 
 -- what a call makes of the cells of a map store
@@ -64,38 +64,32 @@ versioned (Update n k e) x = noted (Update n k e) x
 versioned (Abort n) x = noted (Abort n) x
 versioned (Commit n t) x =
     let rows = rowsIn (x .head .slots) (slotOf (x .head .slots) n) in
-    after (contract.number (Commit n t) (x .head) (x .keys) (x .times) (x .values))
+    after (contract.number (Commit n t) (x .head) (x .columns))
     (record {
-      head = headAfter (Commit n t) (x .head) (versionsOf (x .head .used) (x .keys) (x .times) (x .values));
-      keys = written (x .head .used) (λ r. r .key) rows (x .keys);
-      times = written (x .head .used) (λ r. t) rows (x .times);
-      values = written (x .head .used) (λ r. r .value) rows (x .values);
+      head = headAfter (Commit n t) (x .head) (versionsOf (x .head .used) (x .columns));
+      columns = written (x .head .used) t rows (x .columns);
     })
     x
 
 noted-by : (c : Call) (x : MapCells)
-    → Answered c (x .head) (x .keys) (x .times) (x .values)
-    (told (contract.number c (x .head) (x .keys) (x .times) (x .values)) (meaning.gives c (mapMeaningOf x))) (noted c x .head)
+    → Answered c (x .head) (x .columns) (told (contract.number c (x .head) (x .columns)) (meaning.gives c (mapMeaningOf x))) (noted c x .head)
 noted-by c x =
-    let n = contract.number c (x .head) (x .keys) (x .times) (x .values) in
+    let n = contract.number c (x .head) (x .columns) in
     record { reply = refl; headed = split (eqb n 0) (λ e. rw e) (λ e. rw e) }
 
 versioned-by : (n t : ℕ) (x : MapCells)
-    → Committed n t (x .head) (x .keys) (x .times) (x .values)
-    (told (contract.number (Commit n t) (x .head) (x .keys) (x .times) (x .values)) (meaning.gives (Commit n t) (mapMeaningOf x)))
-    (versioned (Commit n t) x .head) (versioned (Commit n t) x .keys) (versioned (Commit n t) x .times) (versioned (Commit n t) x .values)
+    → Committed n t (x .head) (x .columns) (told (contract.number (Commit n t) (x .head) (x .columns)) (meaning.gives (Commit n t) (mapMeaningOf x)))
+    (versioned (Commit n t) x .head) (versioned (Commit n t) x .columns)
 versioned-by n t x =
-    let i = contract.number (Commit n t) (x .head) (x .keys) (x .times) (x .values) in
+    let i = contract.number (Commit n t) (x .head) (x .columns) in
     record {
       answered = record { reply = refl; headed = split (eqb i 0) (λ e. rw e) (λ e. rw e) };
-      keys = split (eqb i 0) (λ e. rw e) (λ e. rw e);
-      times = split (eqb i 0) (λ e. rw e) (λ e. rw e);
-      values = split (eqb i 0) (λ e. rw e) (λ e. rw e);
+      cells = split (eqb i 0) (λ e. rw e) (λ e. rw e);
     }
 
 -- room for 8 versions
 abbrev mapAfter : List Call → MapCells
-mapAfter [] = record { head = map.emptyHead; keys = replicate 8 0; times = replicate 8 0; values = replicate 8 0 }
+mapAfter [] = record { head = map.emptyHead; columns = columns (replicate 8 0) (replicate 8 0) (replicate 8 0) }
 mapAfter (c ∷ cs) = versioned c (mapAfter cs)
 
 -- commits at 1 to 6: x=0; y=0; x+4 and y=0; x+1; x-3; x+2. The newest call first
@@ -140,7 +134,7 @@ abbrev pub answered : Example → Reply × Reply
 answered e =
     let x = journalAfter (e .calls) in
     let m = mapAfter (e .calls) in
-    (shapedReply (x .head) (x .keys) (x .values) (x .journal) (lookupDecided (e .key) (e .time)), lookupReply (e .key) (e .time) (m .head) (m .keys) (m .times) (m .values))
+    (shapedReply (x .head) (x .keys) (x .values) (x .journal) (lookupDecided (e .key) (e .time)), lookupReply (e .key) (e .time) (m .head) (m .columns))
 
 abbrev pub answers : List Example → List (Reply × Reply)
 answers [] = []

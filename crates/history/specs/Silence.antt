@@ -11,6 +11,7 @@ use Rattle.rules.specs.Passed.{passed}
 use Rattle.rules.specs.Calls.{Call, Begin, Update, Abort, Commit, withRoom}
 use Rattle.answer.specs.Reply.{Reply}
 use Rattle.journal_store.specs.List.{ListedBy}
+use Rattle.versions.specs.Versions.{Columns}
 use Rattle.history.specs.History.{Commitment, History, Deed, Did, Checkpointed, recalled, history, latest, listIn}
 use Rattle.history.specs.Refusals.{lastIn, timeRefused, refusalIn}
 use Rattle.history.specs.Replayed.{whole}
@@ -115,29 +116,29 @@ module _ {room room' : ℕ → Type 0} {ds ds' : List Deed} {since since' : ℕ}
 
 -- The same of two map stores.
 module _ {ds ds' : List Deed} {m m' : MapCells} (r : MapReached ds m) (r' : MapReached ds' m') (same : withoutCheckpoints ds ≡ withoutCheckpoints ds') where
-  pub map-checkpoint-is-silent : (ks ts vs ks' ts' vs' : List ℕ) → MapLent m ks ts vs → MapLent m' ks' ts' vs' → (t : ℕ) → history ds .low ≤ t
+  pub map-checkpoint-is-silent : (cs cs' : Columns) → MapLent m cs → MapLent m' cs' → (t : ℕ) → history ds .low ≤ t
       → history ds' .low ≤ t → (listed contents : List ℕ) → length listed ≡ length contents → (a b : Reply) (listed₁ contents₁ listed₂ contents₂ : List ℕ)
-      → ListedAt t (m .head) ks ts vs listed contents a listed₁ contents₁
-      → ListedAt t (m' .head) ks' ts' vs' listed contents b listed₂ contents₂
+      → ListedAt t (m .head) cs listed contents a listed₁ contents₁
+      → ListedAt t (m' .head) cs' listed contents b listed₂ contents₂
       → (a ≡ b) × (listed₁ ≡ listed₂) × (contents₁ ≡ contents₂)
-  map-checkpoint-is-silent ks ts vs ks' ts' vs' l l' t old old' listed contents p a b listed₁ contents₁ listed₂ contents₂ u v =
+  map-checkpoint-is-silent cs cs' l l' t old old' listed contents p a b listed₁ contents₁ listed₂ contents₂ u v =
       shown-alike (map-accepted-is-lawful r) (map-accepted-is-lawful r') same t old old' listed contents a b listed₁ contents₁ listed₂ contents₂
-      (map-list-answers r ks ts vs l t listed contents p a listed₁ contents₁ u)
-      (map-list-answers r' ks' ts' vs' l' t listed contents p b listed₂ contents₂ v)
+      (map-list-answers r cs l t listed contents p a listed₁ contents₁ u)
+      (map-list-answers r' cs' l' t listed contents p b listed₂ contents₂ v)
 
 -- And of a journal store and a map store, where one of them took checkpoints that the other refused or was not given.
 module _ {room : ℕ → Type 0} {ds ds' : List Deed} {since : ℕ} {x : Cells} {m : MapCells} (r : Reached room ds since x) (r' : MapReached ds' m)
     (same : withoutCheckpoints ds ≡ withoutCheckpoints ds') where
-  pub stores-list-alike-between-checkpoints : (keys values journal ks ts vs : List ℕ) → Lent x (end x) keys values journal → MapLent m ks ts vs → (t : ℕ)
+  pub stores-list-alike-between-checkpoints : (keys values journal : List ℕ) → Lent x (end x) keys values journal → (cs : Columns) → MapLent m cs → (t : ℕ)
       → history ds .low ≤ t → history ds' .low ≤ t → (listed contents : List ℕ) → length listed ≡ length contents
       → (a b : Reply) (listed₁ contents₁ listed₂ contents₂ : List ℕ)
       → ListedBy (x .head) keys values journal t listed contents a listed₁ contents₁
-      → ListedAt t (m .head) ks ts vs listed contents b listed₂ contents₂
+      → ListedAt t (m .head) cs listed contents b listed₂ contents₂
       → (a ≡ b) × (listed₁ ≡ listed₂) × (contents₁ ≡ contents₂)
-  stores-list-alike-between-checkpoints keys values journal ks ts vs l l' t old old' listed contents p a b listed₁ contents₁ listed₂ contents₂ u v =
+  stores-list-alike-between-checkpoints keys values journal l cs l' t old old' listed contents p a b listed₁ contents₁ listed₂ contents₂ u v =
       shown-alike (accepted-is-lawful r) (map-accepted-is-lawful r') same t old old' listed contents a b listed₁ contents₁ listed₂ contents₂
       (list-answers r keys values journal l t listed contents p a listed₁ contents₁ u)
-      (map-list-answers r' ks ts vs l' t listed contents p b listed₂ contents₂ v)
+      (map-list-answers r' cs l' t listed contents p b listed₂ contents₂ v)
 
 -- a call that is not refused, is not refused without the checkpoints
 silent-call : {ds : List Deed} → Lawful ds → (c : Call) → refusalIn (Did c) (history ds) ≡ 0 → refusalIn (Did c) (history (withoutCheckpoints ds)) ≡ 0

@@ -20,6 +20,7 @@ use Rattle.journal_store.specs.Write.{Wrote}
 use Rattle.journal_store.specs.Read.{readDecided, lookupDecided, shapedReply}
 use Rattle.journal_store.specs.List.{ListedBy}
 use Rattle.journal_store.specs.Recover.{Recovered}
+use Rattle.versions.specs.Versions.{Columns}
 use Rattle.map_store.specs.declared.MapHead.{MapHead}
 use Rattle.map_store.specs.Contracts.{readReply, lookupReply, ListedAt}
 use Rattle.history.specs.History.{Deed, Did, Checkpointed, numbers, history, restarted, valueIn, reads, listIn}
@@ -42,16 +43,16 @@ use Rattle.journal_store.specs.Checkpoint as checkpoint
 pub every-call-answers : (c : Call) (h : Head) (keys values j : List ℕ) → (a : Reply) × (head : Head) × (j' : List ℕ) × Wrote c h keys values j a head j'
 every-call-answers = corollaries.every-call-answers
 
-pub every-map-call-answers : (d : Deed) (h : MapHead) (ks ts vs : List ℕ)
-    → (a : Reply) × (head : MapHead) × (ks' : List ℕ) × (ts' : List ℕ) × (vs' : List ℕ) × Does h ks ts vs a head d ks' ts' vs'
+pub every-map-call-answers : (d : Deed) (h : MapHead) (cs : Columns)
+    → (a : Reply) × (head : MapHead) × (cs' : Columns) × Does h cs a head d cs'
 every-map-call-answers = corollaries.every-map-call-answers
 
 pub a-refused-call-changes-nothing : (c : Call) (h : Head) (keys values j : List ℕ) (a : Reply) (head : Head) (j' : List ℕ)
     → Wrote c h keys values j a head j' → a .number ≢ 0 → (head ≡ h) × (j' ≡ j)
 a-refused-call-changes-nothing = corollaries.a-refused-call-changes-nothing
 
-pub a-refused-map-call-changes-nothing : {d : Deed} (h : MapHead) (ks ts vs : List ℕ) (a : Reply) (head : MapHead) {ks' ts' vs' : List ℕ}
-    → Does h ks ts vs a head d ks' ts' vs' → a .number ≢ 0 → (head ≡ h) × (ks' ≡ ks) × (ts' ≡ ts) × (vs' ≡ vs)
+pub a-refused-map-call-changes-nothing : {d : Deed} (h : MapHead) (cs : Columns) (a : Reply) (head : MapHead) {cs' : Columns}
+    → Does h cs a head d cs' → a .number ≢ 0 → (head ≡ h) × (cs' ≡ cs)
 a-refused-map-call-changes-nothing = corollaries.a-refused-map-call-changes-nothing
 
 -- The number of every call is the one that the history gives, and an accepted begin gets the next number.
@@ -60,9 +61,9 @@ pub calls-answer : {room : ℕ → Type 0} {ds : List Deed} {since : ℕ} {x : C
     → a ≡ told (numberIn (x .head .journal .used) (roomOf (length journal)) c (history ds)) (givesIn c (history ds))
 calls-answer = demands.calls-answer
 
-pub map-answers : {ds : List Deed} {m : MapCells} → MapReached ds m → (ks ts vs : List ℕ) → MapLent m ks ts vs → {d : Deed} (a : Reply) (head : MapHead)
-    {ks' ts' vs' : List ℕ} → Does (m .head) ks ts vs a head d ks' ts' vs'
-    → a ≡ told (mapNumberIn (m .head .used) (shape.roomOf (length ks)) d (history ds)) (deedGives d (history ds))
+pub map-answers : {ds : List Deed} {m : MapCells} → MapReached ds m → (cs : Columns) → MapLent m cs → {d : Deed} (a : Reply) (head : MapHead)
+    {cs' : Columns} → Does (m .head) cs a head d cs'
+    → a ≡ told (mapNumberIn (m .head .used) (shape.roomOf (length (cs .keys))) d (history ds)) (deedGives d (history ds))
 map-answers = map.map-answers
 
 pub checkpoint-answers : {room : ℕ → Type 0} {ds : List Deed} {since : ℕ} {x : Cells} → Reached room ds since x → (keys values journal : List ℕ)
@@ -77,8 +78,8 @@ pub looks-up-the-history : {room : ℕ → Type 0} {ds : List Deed} {since : ℕ
     → shapedReply (x .head) keys values journal (lookupDecided k t) ≡ told (lookupNumber k t (history ds)) (valueIn (history ds .commitments) t k)
 looks-up-the-history = demands.looks-up-the-history
 
-pub map-looks-up-the-history : {ds : List Deed} {m : MapCells} → MapReached ds m → (ks ts vs : List ℕ) → MapLent m ks ts vs → (k t : ℕ)
-    → lookupReply k t (m .head) ks ts vs ≡ told (lookupNumber k t (history ds)) (valueIn (history ds .commitments) t k)
+pub map-looks-up-the-history : {ds : List Deed} {m : MapCells} → MapReached ds m → (cs : Columns) → MapLent m cs → (k t : ℕ)
+    → lookupReply k t (m .head) cs ≡ told (lookupNumber k t (history ds)) (valueIn (history ds .commitments) t k)
 map-looks-up-the-history = map.map-looks-up-the-history
 
 pub reads-the-history : {room : ℕ → Type 0} {ds : List Deed} {since : ℕ} {x : Cells} → Reached room ds since x → (keys values journal : List ℕ)
@@ -86,8 +87,8 @@ pub reads-the-history : {room : ℕ → Type 0} {ds : List Deed} {since : ℕ} {
     → shapedReply (x .head) keys values journal (readDecided n k) ≡ told (readNumber n k (history ds)) (reads (history ds) n k)
 reads-the-history = demands.reads-the-history
 
-pub map-reads-the-history : {ds : List Deed} {m : MapCells} → MapReached ds m → (ks ts vs : List ℕ) → MapLent m ks ts vs → (n k : ℕ)
-    → readReply n k (m .head) ks ts vs ≡ told (readNumber n k (history ds)) (reads (history ds) n k)
+pub map-reads-the-history : {ds : List Deed} {m : MapCells} → MapReached ds m → (cs : Columns) → MapLent m cs → (n k : ℕ)
+    → readReply n k (m .head) cs ≡ told (readNumber n k (history ds)) (reads (history ds) n k)
 map-reads-the-history = map.map-reads-the-history
 
 -- Recovery reads back what the calls wrote: every list at every time, refused ones too, is what it was.
@@ -108,9 +109,9 @@ pub every-listing : {room : ℕ → Type 0} {ds : List Deed} {since : ℕ} {x : 
     → (n : ℕ) × (a ≡ accepted (Present n)) × Registers (history ds .commitments) t n listed' contents'
 every-listing = demands.every-listing
 
-pub map-every-listing : {ds : List Deed} {m : MapCells} → MapReached ds m → (ks ts vs : List ℕ) → MapLent m ks ts vs → (t : ℕ) → history ds .low ≤ t
+pub map-every-listing : {ds : List Deed} {m : MapCells} → MapReached ds m → (cs : Columns) → MapLent m cs → (t : ℕ) → history ds .low ≤ t
     → t ≤ lastIn (history ds) → (listed contents : List ℕ) → length listed ≡ length contents → length (listIn (history ds .commitments) t) ≤ length listed
-    → (a : Reply) (listed' contents' : List ℕ) → ListedAt t (m .head) ks ts vs listed contents a listed' contents'
+    → (a : Reply) (listed' contents' : List ℕ) → ListedAt t (m .head) cs listed contents a listed' contents'
     → (n : ℕ) × (a ≡ accepted (Present n)) × Registers (history ds .commitments) t n listed' contents'
 map-every-listing = map.map-every-listing
 
@@ -122,8 +123,8 @@ pub list-answers : {room : ℕ → Type 0} {ds : List Deed} {since : ℕ} {x : C
     (withRoom (timeRefused t (history ds) 0) (length (listIn (history ds .commitments) t)) (length listed)) listed contents a listed' contents'
 list-answers = demands.list-answers
 
-pub map-list-answers : {ds : List Deed} {m : MapCells} → MapReached ds m → (ks ts vs : List ℕ) → MapLent m ks ts vs → (t : ℕ) (listed contents : List ℕ)
-    → length listed ≡ length contents → (a : Reply) (listed' contents' : List ℕ) → ListedAt t (m .head) ks ts vs listed contents a listed' contents'
+pub map-list-answers : {ds : List Deed} {m : MapCells} → MapReached ds m → (cs : Columns) → MapLent m cs → (t : ℕ) (listed contents : List ℕ)
+    → length listed ≡ length contents → (a : Reply) (listed' contents' : List ℕ) → ListedAt t (m .head) cs listed contents a listed' contents'
     → Shows (listIn (history ds .commitments) t)
     (withRoom (timeRefused t (history ds) 0) (length (listIn (history ds .commitments) t)) (length listed)) listed contents a listed' contents'
 map-list-answers = map.map-list-answers
@@ -144,10 +145,10 @@ silent-calls = silence.silent-calls
 
 -- The map store, given the same calls, lists the same.
 pub stores-list-alike : {room : ℕ → Type 0} {ds : List Deed} {since : ℕ} {x : Cells} → Reached room ds since x → (keys values journal : List ℕ)
-    → Lent x (end x) keys values journal → {m : MapCells} → MapReached ds m → (ks ts vs : List ℕ) → MapLent m ks ts vs → (t : ℕ) (listed contents : List ℕ)
+    → Lent x (end x) keys values journal → {m : MapCells} → MapReached ds m → (cs : Columns) → MapLent m cs → (t : ℕ) (listed contents : List ℕ)
     → length listed ≡ length contents → (a a' : Reply) (listed₁ contents₁ listed₂ contents₂ : List ℕ)
     → ListedBy (x .head) keys values journal t listed contents a listed₁ contents₁
-    → ListedAt t (m .head) ks ts vs listed contents a' listed₂ contents₂
+    → ListedAt t (m .head) cs listed contents a' listed₂ contents₂
     → (a ≡ a') × (listed₁ ≡ listed₂) × (contents₁ ≡ contents₂)
 stores-list-alike = map.stores-list-alike
 
@@ -155,26 +156,26 @@ stores-list-alike = map.stores-list-alike
 pub accepted-is-lawful : {room : ℕ → Type 0} {ds : List Deed} {since : ℕ} {x : Cells} → Reached room ds since x → Lawful ds
 accepted-is-lawful = demands.accepted-is-lawful
 
-pub the-map-accepts : {ds : List Deed} {m : MapCells} → MapReached ds m → (ks ts vs : List ℕ) → MapLent m ks ts vs → {d : Deed} → Lawful (d ∷ ds)
-    → (a : Reply) (head : MapHead) {ks' ts' vs' : List ℕ} → Does (m .head) ks ts vs a head d ks' ts' vs' → a .number ≢ 12
+pub the-map-accepts : {ds : List Deed} {m : MapCells} → MapReached ds m → (cs : Columns) → MapLent m cs → {d : Deed} → Lawful (d ∷ ds)
+    → (a : Reply) (head : MapHead) {cs' : Columns} → Does (m .head) cs a head d cs' → a .number ≢ 12
     → a ≡ told 0 (deedGives d (history ds))
 the-map-accepts = map.the-map-accepts
 
 -- Where one of them took checkpoints that the other refused or was not given, they list alike from both lows on.
 pub stores-list-alike-between-checkpoints : {room : ℕ → Type 0} {ds ds' : List Deed} {since : ℕ} {x : Cells} {m : MapCells} → Reached room ds since x
-    → MapReached ds' m → withoutCheckpoints ds ≡ withoutCheckpoints ds' → (keys values journal ks ts vs : List ℕ) → Lent x (end x) keys values journal
-    → MapLent m ks ts vs → (t : ℕ) → history ds .low ≤ t → history ds' .low ≤ t → (listed contents : List ℕ) → length listed ≡ length contents
+    → MapReached ds' m → withoutCheckpoints ds ≡ withoutCheckpoints ds' → (keys values journal : List ℕ) → Lent x (end x) keys values journal
+    → (cs : Columns) → MapLent m cs → (t : ℕ) → history ds .low ≤ t → history ds' .low ≤ t → (listed contents : List ℕ) → length listed ≡ length contents
     → (a b : Reply) (listed₁ contents₁ listed₂ contents₂ : List ℕ)
     → ListedBy (x .head) keys values journal t listed contents a listed₁ contents₁
-    → ListedAt t (m .head) ks ts vs listed contents b listed₂ contents₂
+    → ListedAt t (m .head) cs listed contents b listed₂ contents₂
     → (a ≡ b) × (listed₁ ≡ listed₂) × (contents₁ ≡ contents₂)
 stores-list-alike-between-checkpoints = silence.stores-list-alike-between-checkpoints
 
 -- Call by call both answer the same number and transaction number, unless one of them has no room.
 pub stores-answer-alike : {room : ℕ → Type 0} {ds : List Deed} {since : ℕ} {x : Cells} → Reached room ds since x → (keys values journal : List ℕ)
-    → Lent x (end x) keys values journal → {m : MapCells} → MapReached ds m → (ks ts vs : List ℕ) → MapLent m ks ts vs → (c : Call) (a a' : Reply)
-    (head : Head) (journal' : List ℕ) (head' : MapHead) {ks' ts' vs' : List ℕ} → Wrote c (x .head) keys values journal a head journal'
-    → Does (m .head) ks ts vs a' head' (Did c) ks' ts' vs' → a .number ≢ 12 → a' .number ≢ 12 → a ≡ a'
+    → Lent x (end x) keys values journal → {m : MapCells} → MapReached ds m → (cs : Columns) → MapLent m cs → (c : Call) (a a' : Reply)
+    (head : Head) (journal' : List ℕ) (head' : MapHead) {cs' : Columns} → Wrote c (x .head) keys values journal a head journal'
+    → Does (m .head) cs a' head' (Did c) cs' → a .number ≢ 12 → a' .number ≢ 12 → a ≡ a'
 stores-answer-alike = map.stores-answer-alike
 
 -- THE CUT. At any byte from the journal's end at the latest checkpoint, recovery or empty start to its end now, whatever is lent behind it and whatever
@@ -221,6 +222,6 @@ pub a-committed-assign-is-looked-up : {room : ℕ → Type 0} {ds : List Deed} {
 a-committed-assign-is-looked-up = corollaries.a-committed-assign-is-looked-up
 
 pub the-map-looks-up-a-committed-assign : {ds : List Deed} {m : MapCells} (n k v t : ℕ)
-    → MapReached (Did (Commit n t) ∷ Did (Update n k (Assign v)) ∷ ds) m → (ks ts vs : List ℕ) → MapLent m ks ts vs
-    → lookupReply k t (m .head) ks ts vs ≡ accepted (Present v)
+    → MapReached (Did (Commit n t) ∷ Did (Update n k (Assign v)) ∷ ds) m → (cs : Columns) → MapLent m cs
+    → lookupReply k t (m .head) cs ≡ accepted (Present v)
 the-map-looks-up-a-committed-assign = corollaries.the-map-looks-up-a-committed-assign

@@ -16,6 +16,7 @@ use Rattle.record.specs.Bytes.{Bytes}
 use Rattle.answer.specs.Reply.{Reply, accepted}
 use Rattle.slot.specs.Slots.{firstSlot, lowestFree}
 use Rattle.slot.specs.Places.{placesOf}
+use Rattle.versions.specs.Versions.{columns}
 use Rattle.journal_store.specs.List.{ListedBy}
 use Rattle.journal_store.specs.Tie.{SizedCall}
 use Rattle.map_store.specs.Contracts.{ListedAt}
@@ -186,7 +187,7 @@ abbrev pub map-1 : Given at-1
 unfolding firstSlot lowestFree placesOf
 map-1 = (
   _,
-  did map-start (Did (Begin 0)) junk junk junk (λ shaped. record { keys-held = refl; times-held = refl; values-held = refl }) _ _ _ _ _
+  did map-start (Did (Begin 0)) (columns junk junk junk) (λ shaped. refl) _ _ _
       (begins 0 (record { reply = refl; headed = refl })),
 )
 
@@ -194,7 +195,7 @@ abbrev pub map-2 : Given at-2
 unfolding firstSlot lowestFree placesOf
 map-2 = (
   _,
-  did (map-1 .1) (Did (Update 1 5 (Assign 10))) (map-1 .0 .keys) (map-1 .0 .times) (map-1 .0 .values) (λ shaped. record { keys-held = refl; times-held = refl; values-held = refl }) _ _ _ _ _
+  did (map-1 .1) (Did (Update 1 5 (Assign 10))) (map-1 .0 .columns) (λ shaped. refl) _ _ _
       (updates 1 5 (Assign 10) (record { reply = refl; headed = refl })),
 )
 
@@ -203,7 +204,7 @@ abbrev pub map-refused : Given at-2
 unfolding firstSlot lowestFree placesOf
 map-refused = (
   _,
-  did (map-2 .1) (Did (Update 1 0 (Assign 10))) (map-2 .0 .keys) (map-2 .0 .times) (map-2 .0 .values) (λ shaped. record { keys-held = refl; times-held = refl; values-held = refl }) _ _ _ _ _
+  did (map-2 .1) (Did (Update 1 0 (Assign 10))) (map-2 .0 .columns) (λ shaped. refl) _ _ _
       (updates 1 0 (Assign 10) (record { reply = refl; headed = refl })),
 )
 
@@ -211,23 +212,23 @@ abbrev pub map-3 : Given at-3
 unfolding firstSlot lowestFree placesOf
 map-3 = (
   _,
-  did (map-refused .1) (Did (Commit 1 2)) (map-refused .0 .keys) (map-refused .0 .times) (map-refused .0 .values) (λ shaped. record { keys-held = refl; times-held = refl; values-held = refl }) _ _ _ _ _
-      (commits 1 2 _ _ _ (record { answered = record { reply = refl; headed = refl }; keys = refl; times = refl; values = refl })),
+  did (map-refused .1) (Did (Commit 1 2)) (map-refused .0 .columns) (λ shaped. refl) _ _ _
+      (commits 1 2 _ (record { answered = record { reply = refl; headed = refl }; cells = refl })),
 )
 
 abbrev pub map-4 : Given at-4
 unfolding firstSlot lowestFree placesOf
 map-4 = (
   _,
-  did (map-3 .1) (Checkpointed 2) (map-3 .0 .keys) (map-3 .0 .times) (map-3 .0 .values) (λ shaped. record { keys-held = refl; times-held = refl; values-held = refl }) _ _ _ _ _
-      (checkpoints 2 _ _ _ (record { reply = refl; headed = refl; keys = refl; times = refl; values = refl })),
+  did (map-3 .1) (Checkpointed 2) (map-3 .0 .columns) (λ shaped. refl) _ _ _
+      (checkpoints 2 _ (record { reply = refl; headed = refl; cells = refl })),
 )
 
 abbrev pub map-5 : Given at-5
 unfolding firstSlot lowestFree placesOf
 map-5 = (
   _,
-  did (map-4 .1) (Did (Begin 2)) (map-4 .0 .keys) (map-4 .0 .times) (map-4 .0 .values) (λ shaped. record { keys-held = refl; times-held = refl; values-held = refl }) _ _ _ _ _
+  did (map-4 .1) (Did (Begin 2)) (map-4 .0 .columns) (λ shaped. refl) _ _ _
       (begins 2 (record { reply = refl; headed = refl })),
 )
 
@@ -235,7 +236,7 @@ abbrev pub map-6 : Given at-6
 unfolding firstSlot lowestFree placesOf
 map-6 = (
   _,
-  did (map-5 .1) (Did (Update 2 5 (Add 3))) (map-5 .0 .keys) (map-5 .0 .times) (map-5 .0 .values) (λ shaped. record { keys-held = refl; times-held = refl; values-held = refl }) _ _ _ _ _
+  did (map-5 .1) (Did (Update 2 5 (Add 3))) (map-5 .0 .columns) (λ shaped. refl) _ _ _
       (updates 2 5 (Add 3) (record { reply = refl; headed = refl })),
 )
 
@@ -243,15 +244,15 @@ abbrev pub map-7 : Given at-7
 unfolding firstSlot lowestFree placesOf
 map-7 = (
   _,
-  did (map-6 .1) (Did (Commit 2 4)) (map-6 .0 .keys) (map-6 .0 .times) (map-6 .0 .values) (λ shaped. record { keys-held = refl; times-held = refl; values-held = refl }) _ _ _ _ _
-      (commits 2 4 _ _ _ (record { answered = record { reply = refl; headed = refl }; keys = refl; times = refl; values = refl })),
+  did (map-6 .1) (Did (Commit 2 4)) (map-6 .0 .columns) (λ shaped. refl) _ _ _
+      (commits 2 4 _ (record { answered = record { reply = refl; headed = refl }; cells = refl })),
 )
 
 abbrev pub map-8 : Given at-8
 unfolding firstSlot lowestFree placesOf
 map-8 = (
   _,
-  did (map-7 .1) (Did (Begin 4)) (map-7 .0 .keys) (map-7 .0 .times) (map-7 .0 .values) (λ shaped. record { keys-held = refl; times-held = refl; values-held = refl }) _ _ _ _ _
+  did (map-7 .1) (Did (Begin 4)) (map-7 .0 .columns) (λ shaped. refl) _ _ _
       (begins 4 (record { reply = refl; headed = refl })),
 )
 
@@ -259,18 +260,18 @@ abbrev pub map-9 : Given stands
 unfolding firstSlot lowestFree placesOf
 map-9 = (
   _,
-  did (map-8 .1) (Did (Abort 3)) (map-8 .0 .keys) (map-8 .0 .times) (map-8 .0 .values) (λ shaped. record { keys-held = refl; times-held = refl; values-held = refl }) _ _ _ _ _
+  did (map-8 .1) (Did (Abort 3)) (map-8 .0 .columns) (λ shaped. refl) _ _ _
       (aborts 3 (record { reply = refl; headed = refl })),
 )
 
 -- The map's list at 4 is the same.
 pub the-map-lists-at-4 : (a : Reply) (listed contents : List ℕ)
-    → ListedAt 4 (map-9 .0 .head) (map-9 .0 .keys) (map-9 .0 .times) (map-9 .0 .values) (7 ∷ 7 ∷ []) (7 ∷ 7 ∷ []) a listed contents
+    → ListedAt 4 (map-9 .0 .head) (map-9 .0 .columns) (7 ∷ 7 ∷ []) (7 ∷ 7 ∷ []) a listed contents
     → (a ≡ accepted (Present 1)) × (listed ≡ 5 ∷ 7 ∷ []) × (contents ≡ 13 ∷ 7 ∷ [])
 unfolding firstSlot lowestFree placesOf
 the-map-lists-at-4 a listed contents w =
     let m =
-    map-lists (map-9 .1) (map-9 .0 .keys) (map-9 .0 .times) (map-9 .0 .values) (map-own (map-9 .1)) 4 (omega arith) (omega arith)
+    map-lists (map-9 .1) (map-9 .0 .columns) (map-own (map-9 .1)) 4 (omega arith) (omega arith)
     (7 ∷ 7 ∷ []) (7 ∷ 7 ∷ []) refl (omega arith) a listed contents w
     in
     (m .reply, m .keys-column, m .values-column)

@@ -17,6 +17,7 @@ use Rattle.journal_store.specs.Read.{shapedReply, readDecided, lookupDecided}
 use Rattle.journal_store.specs.List.{ListedBy}
 use Rattle.journal_store.specs.Checkpoint as journal-checkpoint
 use Rattle.journal_store.specs.Recover.{Recovered}
+use Rattle.versions.specs.Versions.{Columns}
 use Rattle.map_store.specs.declared.MapHead.{MapHead}
 use Rattle.map_store.specs.Shape as map-shape
 use Rattle.map_store.specs.Contracts.{Answered, Committed, readReply, lookupReply, ListedAt}
@@ -123,10 +124,10 @@ module _ (h : Head) (keys values j : List ℕ) where
 pub map-empty-unique : (a b : MapHead) → a ≡ map-shape.emptyHead → b ≡ map-shape.emptyHead → a ≡ b
 map-empty-unique a b p q = p ∙ sym q
 
-module _ (h : MapHead) (ks ts vs : List ℕ) where
+module _ (h : MapHead) (cs : Columns) where
   -- begin, assign, add and abort: what is returned; the columns are lent to be read
   abbrev Gives : Call → MapOutcome → Type 0
-  Gives c a = MapReturns (λ r head. Answered c h ks ts vs r head) a
+  Gives c a = MapReturns (λ r head. Answered c h cs r head) a
 
   answered-unique : (c : Call) (a b : MapOutcome) → Gives c a → Gives c b → a ≡ b
   answered-unique c a b p q = map-same p q (p .meets .headed ∙ sym (q .meets .headed)) (p .meets .reply ∙ sym (q .meets .reply))
@@ -143,38 +144,34 @@ module _ (h : MapHead) (ks ts vs : List ℕ) where
   pub map-abort-unique : (n : ℕ) (a b : MapOutcome) → Gives (Abort n) a → Gives (Abort n) b → a ≡ b
   map-abort-unique n = answered-unique (Abort n)
 
-  pub map-commit-unique : (n t : ℕ) (k u v k' u' v' : List ℕ) (a b : MapOutcome)
-      → MapReturns (λ r head. Committed n t h ks ts vs r head k u v) a → MapReturns (λ r head. Committed n t h ks ts vs r head k' u' v') b
-      → (a ≡ b) × (k ≡ k') × (u ≡ u') × (v ≡ v')
-  map-commit-unique n t k u v k' u' v' a b p q = (
+  pub map-commit-unique : (n t : ℕ) (x y : Columns) (a b : MapOutcome)
+      → MapReturns (λ r head. Committed n t h cs r head x) a → MapReturns (λ r head. Committed n t h cs r head y) b
+      → (a ≡ b) × (x ≡ y)
+  map-commit-unique n t x y a b p q = (
     map-same p q (p .meets .answered .headed ∙ sym (q .meets .answered .headed)) (p .meets .answered .reply ∙ sym (q .meets .answered .reply)),
-    p .meets .keys ∙ sym (q .meets .keys),
-    p .meets .times ∙ sym (q .meets .times),
-    p .meets .values ∙ sym (q .meets .values),
+    p .meets .cells ∙ sym (q .meets .cells),
   )
 
-  pub map-read-unique : (n k : ℕ) (a b : Answer) → Answers (λ r. r ≡ readReply n k h ks ts vs) a → Answers (λ r. r ≡ readReply n k h ks ts vs) b → a ≡ b
+  pub map-read-unique : (n k : ℕ) (a b : Answer) → Answers (λ r. r ≡ readReply n k h cs) a → Answers (λ r. r ≡ readReply n k h cs) b → a ≡ b
   map-read-unique n k a b p q = same p q (p .meets ∙ sym (q .meets))
 
-  pub map-lookup-unique : (k t : ℕ) (a b : Answer) → Answers (λ r. r ≡ lookupReply k t h ks ts vs) a → Answers (λ r. r ≡ lookupReply k t h ks ts vs) b
+  pub map-lookup-unique : (k t : ℕ) (a b : Answer) → Answers (λ r. r ≡ lookupReply k t h cs) a → Answers (λ r. r ≡ lookupReply k t h cs) b
       → a ≡ b
   map-lookup-unique k t a b p q = same p q (p .meets ∙ sym (q .meets))
 
-  pub map-list-unique : (t : ℕ) (listed contents x y x' y' : List ℕ) (a b : Answer) → Answers (λ r. ListedAt t h ks ts vs listed contents r x y) a
-      → Answers (λ r. ListedAt t h ks ts vs listed contents r x' y') b → (a ≡ b) × (x ≡ x') × (y ≡ y')
+  pub map-list-unique : (t : ℕ) (listed contents x y x' y' : List ℕ) (a b : Answer) → Answers (λ r. ListedAt t h cs listed contents r x y) a
+      → Answers (λ r. ListedAt t h cs listed contents r x' y') b → (a ≡ b) × (x ≡ x') × (y ≡ y')
   map-list-unique t listed contents x y x' y' a b p q = (
     same p q (p .meets .reply ∙ sym (q .meets .reply)),
     p .meets .keys ∙ sym (q .meets .keys),
     p .meets .values ∙ sym (q .meets .values),
   )
 
-  pub map-checkpoint-unique : (t : ℕ) (k u v k' u' v' : List ℕ) (a b : MapOutcome)
-      → MapReturns (λ r head. map-contracts.Checkpointed t h ks ts vs r head k u v) a
-      → MapReturns (λ r head. map-contracts.Checkpointed t h ks ts vs r head k' u' v') b
-      → (a ≡ b) × (k ≡ k') × (u ≡ u') × (v ≡ v')
-  map-checkpoint-unique t k u v k' u' v' a b p q = (
+  pub map-checkpoint-unique : (t : ℕ) (x y : Columns) (a b : MapOutcome)
+      → MapReturns (λ r head. map-contracts.Checkpointed t h cs r head x) a
+      → MapReturns (λ r head. map-contracts.Checkpointed t h cs r head y) b
+      → (a ≡ b) × (x ≡ y)
+  map-checkpoint-unique t x y a b p q = (
     map-same p q (p .meets .headed ∙ sym (q .meets .headed)) (p .meets .reply ∙ sym (q .meets .reply)),
-    p .meets .keys ∙ sym (q .meets .keys),
-    p .meets .times ∙ sym (q .meets .times),
-    p .meets .values ∙ sym (q .meets .values),
+    p .meets .cells ∙ sym (q .meets .cells),
   )

@@ -1,6 +1,7 @@
 // The calls of the map store. Each is lent the head by value and the three version columns, keys, times and values.
 ghost use mathlib.Core.Path.{_≡_};
 ghost use Rattle.rules.specs.Calls.{Begin, Update, Abort};
+ghost use Rattle.versions.specs.Versions.{columns};
 ghost use Rattle.map_store.specs.Shape.{emptyHead};
 ghost use Rattle.map_store.specs.Contracts.{Answered, Committed, readReply, lookupReply, ListedAt, Checkpointed};
 ghost use Rattle.answer.specs.Reply.{ofBegun, ofDone};
@@ -53,7 +54,7 @@ pub extern "C" fn registers_map_begin(
     values: &[u32],
     t: u64,
 ) -> MapOutcome
-    ensures { λ r. ⌜ MapReturns (λ a head. Answered (Begin t) h (now (keys .entry)) (now (times .entry)) (now (values .entry)) a head) r ⌝ }
+    ensures { λ r. ⌜ MapReturns (λ a head. Answered (Begin t) h (columns (now (keys .entry)) (now (times .entry)) (now (values .entry))) a head) r ⌝ }
 {
     started(map_store::begin::begin(h, keys, times, values, t))
 }
@@ -69,7 +70,7 @@ pub extern "C" fn registers_map_assign(
     k: u32,
     v: u32,
 ) -> MapOutcome
-    ensures { λ r. ⌜ MapReturns (λ a head. Answered (Update n k (Effect.Assign v)) h (now (keys .entry)) (now (times .entry)) (now (values .entry)) a head) r ⌝ }
+    ensures { λ r. ⌜ MapReturns (λ a head. Answered (Update n k (Effect.Assign v)) h (columns (now (keys .entry)) (now (times .entry)) (now (values .entry))) a head) r ⌝ }
 {
     ended(map_store::update::update(h, keys, times, values, n, k, Effect::Assign(v)))
 }
@@ -85,7 +86,7 @@ pub extern "C" fn registers_map_add(
     k: u32,
     d: u32,
 ) -> MapOutcome
-    ensures { λ r. ⌜ MapReturns (λ a head. Answered (Update n k (Effect.Add d)) h (now (keys .entry)) (now (times .entry)) (now (values .entry)) a head) r ⌝ }
+    ensures { λ r. ⌜ MapReturns (λ a head. Answered (Update n k (Effect.Add d)) h (columns (now (keys .entry)) (now (times .entry)) (now (values .entry))) a head) r ⌝ }
 {
     ended(map_store::update::update(h, keys, times, values, n, k, Effect::Add(d)))
 }
@@ -99,7 +100,7 @@ pub extern "C" fn registers_map_abort(
     values: &[u32],
     n: u32,
 ) -> MapOutcome
-    ensures { λ r. ⌜ MapReturns (λ a head. Answered (Abort n) h (now (keys .entry)) (now (times .entry)) (now (values .entry)) a head) r ⌝ }
+    ensures { λ r. ⌜ MapReturns (λ a head. Answered (Abort n) h (columns (now (keys .entry)) (now (times .entry)) (now (values .entry))) a head) r ⌝ }
 {
     ended(map_store::abort::abort(h, keys, times, values, n))
 }
@@ -114,7 +115,7 @@ pub extern "C" fn registers_map_commit(
     n: u32,
     t: u64,
 ) -> MapOutcome
-    ensures { λ r. ⌜ MapReturns (λ a head. Committed n t h (now (keys .entry)) (now (times .entry)) (now (values .entry)) a head (now (keys .exit)) (now (times .exit)) (now (values .exit))) r ⌝ }
+    ensures { λ r. ⌜ MapReturns (λ a head. Committed n t h (columns (now (keys .entry)) (now (times .entry)) (now (values .entry))) a head (columns (now (keys .exit)) (now (times .exit)) (now (values .exit)))) r ⌝ }
 {
     ended(map_commit::commit(h, keys, times, values, n, t))
 }
@@ -129,7 +130,7 @@ pub extern "C" fn registers_map_read(
     n: u32,
     k: u32,
 ) -> Answer
-    ensures { λ r. ⌜ Answers (λ a. a ≡ readReply n k h (now (keys .entry)) (now (times .entry)) (now (values .entry))) r ⌝ }
+    ensures { λ r. ⌜ Answers (λ a. a ≡ readReply n k h (columns (now (keys .entry)) (now (times .entry)) (now (values .entry)))) r ⌝ }
 {
     crate::got(map_store::read::read(h, keys, times, values, n, k))
 }
@@ -144,7 +145,7 @@ pub extern "C" fn registers_map_lookup(
     k: u32,
     t: u64,
 ) -> Answer
-    ensures { λ r. ⌜ Answers (λ a. a ≡ lookupReply k t h (now (keys .entry)) (now (times .entry)) (now (values .entry))) r ⌝ }
+    ensures { λ r. ⌜ Answers (λ a. a ≡ lookupReply k t h (columns (now (keys .entry)) (now (times .entry)) (now (values .entry)))) r ⌝ }
 {
     crate::got(map_store::lookup::lookup(h, keys, times, values, k, t))
 }
@@ -160,7 +161,7 @@ pub extern "C" fn registers_map_list(
     listed: &mut [u32],
     contents: &mut [u32],
 ) -> Answer
-    ensures { λ r. ⌜ Answers (λ a. ListedAt t h (now (keys .entry)) (now (times .entry)) (now (values .entry)) (now (listed .entry)) (now (contents .entry)) a (now (listed .exit)) (now (contents .exit))) r ⌝ }
+    ensures { λ r. ⌜ Answers (λ a. ListedAt t h (columns (now (keys .entry)) (now (times .entry)) (now (values .entry))) (now (listed .entry)) (now (contents .entry)) a (now (listed .exit)) (now (contents .exit))) r ⌝ }
 {
     crate::listed(map_list::list(h, keys, times, values, t, listed, contents))
 }
@@ -174,7 +175,7 @@ pub extern "C" fn registers_map_checkpoint(
     values: &mut [u32],
     t: u64,
 ) -> MapOutcome
-    ensures { λ r. ⌜ MapReturns (λ a head. Checkpointed t h (now (keys .entry)) (now (times .entry)) (now (values .entry)) a head (now (keys .exit)) (now (times .exit)) (now (values .exit))) r ⌝ }
+    ensures { λ r. ⌜ MapReturns (λ a head. Checkpointed t h (columns (now (keys .entry)) (now (times .entry)) (now (values .entry))) a head (columns (now (keys .exit)) (now (times .exit)) (now (values .exit)))) r ⌝ }
 {
     ended(map_checkpoint::checkpoint(h, keys, times, values, t))
 }

@@ -1,5 +1,6 @@
 // The map store's checkpoint: versions that no snapshot from a time on can see are dropped. Refusals 1, 4, 5, 9.
 ghost use Rattle.answer.specs.Reply.{ofDone};
+ghost use Rattle.versions.specs.Versions.{columns};
 ghost use Rattle.map_store.specs.Contracts.{Checkpointed};
 use answer::Done;
 use answer::Refusal;
@@ -14,7 +15,7 @@ pub fn checkpoint(
     values: &mut [u32],
     t: u64,
 ) -> Outcome
-    ensures { λ r. ⌜ Checkpointed t h (now (keys .entry)) (now (times .entry)) (now (values .entry)) (ofDone (r .answer)) (r .head) (now (keys .exit)) (now (times .exit)) (now (values .exit)) ⌝ }
+    ensures { λ r. ⌜ Checkpointed t h (columns (now (keys .entry)) (now (times .entry)) (now (values .entry))) (ofDone (r .answer)) (r .head) (columns (now (keys .exit)) (now (times .exit)) (now (values .exit))) ⌝ }
 {
     if !map_store::shaped(h, keys.len(), times.len(), values.len()) {
         return map_store::refused(h, Refusal::BadShape);

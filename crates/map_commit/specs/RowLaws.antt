@@ -17,9 +17,9 @@ use Rattle.slot.specs.Formed.{Rowed}
 use Rattle.slot.specs.Places.{Note, hasKey, rowsOf}
 use Rattle.slot.specs.RowLaws.{has-row}
 use Rattle.versions.specs.declared.Version.{Version}
-use Rattle.versions.specs.Versions.{later}
-use Rattle.versions.specs.Columns.{Appended}
-use Rattle.map_store.specs.Meaning.{firsts, clash}
+use Rattle.versions.specs.Versions.{Columns, later}
+use Rattle.versions.specs.Columns.{withVersion}
+use Rattle.map_store.specs.Meaning.{firsts, clash, versionOf}
 use Rattle.map_commit.specs.Commit.{Stamped}
 
 -- a slot of which the first i rows are in use
@@ -80,13 +80,6 @@ length-firsts (r ∷ rows) =
     split (hasKey (r .key) rows) (λ t. rw t (omega arith)) (λ t. rw t (omega arith))
 
 -- a row appended behind those that were written is one row more
-pub stamped-more : (t used : ℕ) (rows : List Note) (r : Note) (ks ts vs ks₁ ts₁ vs₁ ks₂ ts₂ vs₂ : List ℕ) (at : ℕ)
-    → Stamped t used rows ks ts vs ks₁ ts₁ vs₁ at → Appended at (r .key) t (r .value) ks₁ ts₁ vs₁ ks₂ ts₂ vs₂
-    → Stamped t used (r ∷ rows) ks ts vs ks₂ ts₂ vs₂ (at + 1)
-stamped-more t used rows r ks ts vs ks₁ ts₁ vs₁ ks₂ ts₂ vs₂ at w p =
-    record {
-      count = omega (arith, w .count);
-      keys = p .keys ∙ rw (w .keys, w .count);
-      times = p .times ∙ rw (w .times, w .count);
-      values = p .values ∙ rw (w .values, w .count);
-    }
+pub stamped-more : (t used : ℕ) (rows : List Note) (r : Note) (cs cs₁ cs₂ : Columns) (at : ℕ) → Stamped t used rows cs cs₁ at
+    → cs₂ ≡ withVersion at (versionOf t r) cs₁ → Stamped t used (r ∷ rows) cs cs₂ (at + 1)
+stamped-more t used rows r cs cs₁ cs₂ at w p = record { count = omega (arith, w .count); cells = p ∙ rw (w .cells, w .count) }

@@ -1,13 +1,12 @@
 // The map store's commit: the running values of a transaction become versions at a time later than last. Refusals 1, 2, 10, 11, 12.
 ghost use mathlib.Core.Path.{_≡_};
 ghost use mathlib.Core.Bool.{not};
-ghost use mathlib.Core.List.{List};
-ghost use Prim.Native.Nat.{ℕ, _+_, _≤_, _<_};
+ghost use Prim.Native.Nat.{_+_, _≤_, _<_};
 ghost use lib.ListN.{length, getD};
 ghost use Rattle.answer.specs.Reply.{ofDone};
 ghost use Rattle.slot.specs.Formed.{Rowed};
 ghost use Rattle.slot.specs.Places.{hasKey, rowsOf, slotRows};
-ghost use Rattle.versions.specs.Versions.{versionsOf};
+ghost use Rattle.versions.specs.Versions.{Columns, columns, keyed, versionsOf};
 ghost use Rattle.versions.specs.Columns.{Lent};
 ghost use Rattle.map_store.specs.Meaning.{firsts, clash};
 ghost use Rattle.map_store.specs.Shape.{roomOf};
@@ -64,7 +63,7 @@ fn count_written(s: Slot) -> usize
 // Rule 3.6: whether a key that the transaction of a slot wrote has a version later than its snapshot.
 fn conflicts(s: Slot, keys: &[u32], times: &[u64], used: usize) -> bool
     requires { ⌜ Rowed s × (used ≤ length (now keys)) × (used ≤ length (now times)) ⌝ }
-    ensures { λ r. ⌜ ((values : List ℕ) → r ≡ clash (s .snapshot) (slotRows s) (versionsOf used (now (keys .entry)) (now (times .entry)) values)) ⌝ }
+    ensures { λ r. ⌜ ((others : Columns) → r ≡ clash (s .snapshot) (slotRows s) (versionsOf used (keyed (now (keys .entry)) (now (times .entry)) others))) ⌝ }
 {
     let written = s.keys;
     let rows = s.count;
@@ -88,8 +87,8 @@ fn stamp(
     used: usize,
     t: u64,
 ) -> usize
-    requires { do ⌜ Rowed s × (used ≤ (← ⟦Version::ROWS⟧)) × Lent (used + length (firsts (slotRows s))) (now keys) (now times) (now values) ⌝ }
-    ensures { λ r. ⌜ Stamped t used (firsts (slotRows s)) (now (keys .entry)) (now (times .entry)) (now (values .entry)) (now (keys .exit)) (now (times .exit)) (now (values .exit)) r ⌝ }
+    requires { do ⌜ Rowed s × (used ≤ (← ⟦Version::ROWS⟧)) × Lent (used + length (firsts (slotRows s))) (columns (now keys) (now times) (now values)) ⌝ }
+    ensures { λ r. ⌜ Stamped t used (firsts (slotRows s)) (columns (now (keys .entry)) (now (times .entry)) (now (values .entry))) (columns (now (keys .exit)) (now (times .exit)) (now (values .exit))) r ⌝ }
 {
     let written = s.keys;
     let running = s.values;
@@ -115,7 +114,7 @@ pub fn commit(
     n: u32,
     t: u64,
 ) -> Outcome
-    ensures { λ r. ⌜ Committed n t h (now (keys .entry)) (now (times .entry)) (now (values .entry)) (ofDone (r .answer)) (r .head) (now (keys .exit)) (now (times .exit)) (now (values .exit)) ⌝ }
+    ensures { λ r. ⌜ Committed n t h (columns (now (keys .entry)) (now (times .entry)) (now (values .entry))) (ofDone (r .answer)) (r .head) (columns (now (keys .exit)) (now (times .exit)) (now (values .exit))) ⌝ }
 {
     if !map_store::shaped(h, keys.len(), times.len(), values.len()) {
         return map_store::refused(h, Refusal::BadShape);

@@ -3,7 +3,7 @@ ghost use mathlib.Core.Path.{_≡_};
 ghost use Prim.Native.Nat.{_≤_, _<_};
 ghost use lib.ListN.{length};
 ghost use Rattle.answer.specs.Reply.{ofListed};
-ghost use Rattle.versions.specs.Versions.{versionsOf, listAt};
+ghost use Rattle.versions.specs.Versions.{columns, versionsOf, listAt};
 ghost use Rattle.versions.specs.Columns.{Lent};
 ghost use Rattle.table.specs.Table.{Spare};
 ghost use Rattle.map_store.specs.Contracts.{ListedAt};
@@ -25,8 +25,8 @@ fn write(
     out_keys: &mut [u32],
     out_values: &mut [u32],
 ) -> Listed
-    requires { do ⌜ Lent used (now keys) (now times) (now values) × (used ≤ (← ⟦Version::ROWS⟧)) × Spare (now listed) (now contents) used × (length (now «out_keys») ≡ length (now «out_values»)) ⌝ }
-    ensures { λ r. ⌜ ListedIn (listAt (versionsOf used (now (keys .entry)) (now (times .entry)) (now (values .entry))) t) (now («out_keys» .entry)) (now («out_values» .entry)) (ofListed r) (now («out_keys» .exit)) (now («out_values» .exit)) ⌝ }
+    requires { do ⌜ Lent used (columns (now keys) (now times) (now values)) × (used ≤ (← ⟦Version::ROWS⟧)) × Spare (now listed) (now contents) used × (length (now «out_keys») ≡ length (now «out_values»)) ⌝ }
+    ensures { λ r. ⌜ ListedIn (listAt (versionsOf used (columns (now (keys .entry)) (now (times .entry)) (now (values .entry)))) t) (now («out_keys» .entry)) (now («out_values» .entry)) (ofListed r) (now («out_keys» .exit)) (now («out_values» .exit)) ⌝ }
 {
     let count = newest::listing(keys, times, values, used, t, listed, contents);
     if out_keys.len() < count {
@@ -47,8 +47,8 @@ fn write_few(
     out_keys: &mut [u32],
     out_values: &mut [u32],
 ) -> Listed
-    requires { do ⌜ Lent used (now keys) (now times) (now values) × (used < (← ⟦Version::FEW⟧)) × (length (now «out_keys») ≡ length (now «out_values»)) ⌝ }
-    ensures { λ r. ⌜ ListedIn (listAt (versionsOf used (now (keys .entry)) (now (times .entry)) (now (values .entry))) t) (now («out_keys» .entry)) (now («out_values» .entry)) (ofListed r) (now («out_keys» .exit)) (now («out_values» .exit)) ⌝ }
+    requires { do ⌜ Lent used (columns (now keys) (now times) (now values)) × (used < (← ⟦Version::FEW⟧)) × (length (now «out_keys») ≡ length (now «out_values»)) ⌝ }
+    ensures { λ r. ⌜ ListedIn (listAt (versionsOf used (columns (now (keys .entry)) (now (times .entry)) (now (values .entry)))) t) (now («out_keys» .entry)) (now («out_values» .entry)) (ofListed r) (now («out_keys» .exit)) (now («out_values» .exit)) ⌝ }
 {
     let mut listed = [0u32; Version::FEW];
     let mut contents = [0u32; Version::FEW];
@@ -75,8 +75,8 @@ fn write_any(
     out_keys: &mut [u32],
     out_values: &mut [u32],
 ) -> Listed
-    requires { do ⌜ Lent used (now keys) (now times) (now values) × (used ≤ (← ⟦Version::ROWS⟧)) × (length (now «out_keys») ≡ length (now «out_values»)) ⌝ }
-    ensures { λ r. ⌜ ListedIn (listAt (versionsOf used (now (keys .entry)) (now (times .entry)) (now (values .entry))) t) (now («out_keys» .entry)) (now («out_values» .entry)) (ofListed r) (now («out_keys» .exit)) (now («out_values» .exit)) ⌝ }
+    requires { do ⌜ Lent used (columns (now keys) (now times) (now values)) × (used ≤ (← ⟦Version::ROWS⟧)) × (length (now «out_keys») ≡ length (now «out_values»)) ⌝ }
+    ensures { λ r. ⌜ ListedIn (listAt (versionsOf used (columns (now (keys .entry)) (now (times .entry)) (now (values .entry)))) t) (now («out_keys» .entry)) (now («out_values» .entry)) (ofListed r) (now («out_keys» .exit)) (now («out_values» .exit)) ⌝ }
 {
     if used < Version::FEW {
         return write_few(keys, times, values, used, t, out_keys, out_values);
@@ -106,7 +106,7 @@ pub fn list(
     out_keys: &mut [u32],
     out_values: &mut [u32],
 ) -> Listed
-    ensures { λ r. ⌜ ListedAt t h (now (keys .entry)) (now (times .entry)) (now (values .entry)) (now («out_keys» .entry)) (now («out_values» .entry)) (ofListed r) (now («out_keys» .exit)) (now («out_values» .exit)) ⌝ }
+    ensures { λ r. ⌜ ListedAt t h (columns (now (keys .entry)) (now (times .entry)) (now (values .entry))) (now («out_keys» .entry)) (now («out_values» .entry)) (ofListed r) (now («out_keys» .exit)) (now («out_values» .exit)) ⌝ }
 {
     if out_keys.len() != out_values.len() {
         return Listed::Refused(Refusal::BadShape);

@@ -1,7 +1,7 @@
 -- What accepted calls make of the head and of the version columns, cell by cell. Assumes nothing.
 use mathlib.Core.List.{List, [], _∷_}
 use Prim.Native.Nat.{ℕ, _+_}
-use lib.ListN.{length, set}
+use lib.ListN.{length}
 use Rattle.rules.specs.declared.Effect.{Effect}
 use Rattle.rules.specs.Effects.{orZero, applied}
 use Rattle.rules.specs.Calls.{Call, Begin, Update, Abort, Commit}
@@ -11,9 +11,10 @@ use Rattle.slot.specs.declared.Slots.{Slots}
 use Rattle.slot.specs.Slots.{slotAt, slotOf, openedIn, notedIn, closedIn}
 use Rattle.slot.specs.Places.{Note, slotRows, placeIn}
 use Rattle.versions.specs.declared.Version.{Version}
-use Rattle.versions.specs.Versions.{keptFrom}
+use Rattle.versions.specs.Versions.{Columns, keptFrom}
+use Rattle.versions.specs.Columns.{withVersion}
 use Rattle.map_store.specs.declared.MapHead.{MapHead}
-use Rattle.map_store.specs.Meaning.{current, rowsAt}
+use Rattle.map_store.specs.Meaning.{current, rowsAt, versionOf}
 
 -- other slots in a head
 abbrev pub withSlots : MapHead → Slots → MapHead
@@ -54,10 +55,10 @@ headAfter (Update n k e) h vs = updatedHead k e (slotOf (h .slots) n) h vs
 headAfter (Abort n) h vs = abortedHead (slotOf (h .slots) n) h
 headAfter (Commit n t) h vs = committedHead t (slotOf (h .slots) n) h
 
--- a column whose first n rows are used, with one field of some rows written behind these, the oldest row first
-abbrev pub written : ℕ → (Note → ℕ) → List Note → List ℕ → List ℕ
-written n field [] cells = cells
-written n field (r ∷ older) cells = set (written n field older cells) (n + length older) (field r)
+-- columns whose first n rows are used, with a version at t for each of some rows behind these, the oldest first
+abbrev pub written : ℕ → ℕ → List Note → Columns → Columns
+written n t [] cs = cs
+written n t (r ∷ older) cs = withVersion (n + length older) (versionOf t r) (written n t older cs)
 
 -- checkpoint: low is T, and the versions kept are counted
 abbrev pub keptHead : ℕ → MapHead → List Version → MapHead

@@ -1,7 +1,6 @@
 -- How a call's parts make its contract: what was decided on the meaning, then done to the cells if it was accepted. Assumes nothing.
 use mathlib.Core.Path.{_≡_, refl, sym, ap, _∙_}
 use mathlib.Core.Bool.{Bool, true, false, cond}
-use mathlib.Core.List.{List}
 use Prim.Native.Nat.{ℕ, _<_}
 use native.Mathlib.Omega.{arith}
 use lib.Dec.{eqb}
@@ -23,12 +22,12 @@ use Rattle.slot.specs.Formed.{Formed, Rowed}
 use Rattle.slot.specs.Laws.{first-slot}
 use Rattle.slot.specs.Places.{free, placeOf, placeIn, placesOf, takenBy}
 use Rattle.slot.specs.PlaceLaws.{place-slot}
-use Rattle.versions.specs.Versions.{versionsOf}
+use Rattle.versions.specs.Versions.{Columns, versionsOf}
 use Rattle.versions.specs.Columns.{Lent}
 use Rattle.map_store.specs.declared.MapHead.{MapHead}
 use Rattle.map_store.specs.declared.Outcome.{Outcome}
 use Rattle.map_store.specs.Meaning.{MapStore, mapAnswer, gives}
-use Rattle.map_store.specs.Shape.{isShaped, Shaped, roomOf, meaning}
+use Rattle.map_store.specs.Shape.{lengths, isShaped, Shaped, roomOf, meaning}
 use Rattle.map_store.specs.Heads.{headAfter}
 use Rattle.map_store.specs.Contracts.{shapedNumber, number, decided, Answered}
 use Rattle.map_store.specs.Tests.{say, begin-numbered}
@@ -46,16 +45,16 @@ module _ (h : Slots) (n : ℕ) (f : Found) (e : f ≡ slotOf h n) where
     rowed-found w = w .rowed i (first-slot (hasNumber n) h (sym e ∙ g) .occupied)
 
 -- lent rows of a good shape
-pub lent : (h : MapHead) (ks ts vs : List ℕ) → Shaped h (length ks) (length ts) (length vs) → Lent (h .used) ks ts vs
-lent h ks ts vs w =
+pub lent : (h : MapHead) (cs : Columns) → Shaped h (lengths cs) → Lent (h .used) cs
+lent h cs w =
     record { keys = w .rows; times = omega (arith, w .rows, w .times); values = omega (arith, w .rows, w .values) }
 
-module _ (h : MapHead) (ks ts vs : List ℕ) (f : MapStore → ℕ) where
-  pub number-bad : isShaped h (length ks) (length ts) (length vs) ≡ false → shapedNumber h ks ts vs f ≡ 1
-  number-bad e = ap (λ (b : Bool). cond b (f (meaning h ks ts vs)) 1) e
+module _ (h : MapHead) (cs : Columns) (f : MapStore → ℕ) where
+  pub number-bad : isShaped h (lengths cs) ≡ false → shapedNumber h cs f ≡ 1
+  number-bad e = ap (λ (b : Bool). cond b (f (meaning h cs)) 1) e
 
-  pub number-good : isShaped h (length ks) (length ts) (length vs) ≡ true → shapedNumber h ks ts vs f ≡ f (meaning h ks ts vs)
-  number-good e = ap (λ (b : Bool). cond b (f (meaning h ks ts vs)) 1) e
+  pub number-good : isShaped h (lengths cs) ≡ true → shapedNumber h cs f ≡ f (meaning h cs)
+  number-good e = ap (λ (b : Bool). cond b (f (meaning h cs)) 1) e
 
 -- the number on the cells is that on the meaning, for which a reply was decided
 module _ (cells means : ℕ) (v : Value) (e : cells ≡ means) (a : Reply) (d : a ≡ told means v) where
@@ -70,40 +69,40 @@ module _ (cells means : ℕ) (v : Value) (e : cells ≡ means) (a : Reply) (d : 
     changed new old x p =
         p ∙ ap (λ (b : Bool). cond b new old) (y ∙ ap (λ (r : Reply). eqb (r .number) 0) d ∙ ap (λ (n : ℕ). eqb n 0) (sym e))
 
-module _ (c : Call) (h : MapHead) (ks ts vs : List ℕ) where
+module _ (c : Call) (h : MapHead) (cs : Columns) where
   -- a store of bad shape: refused, and nothing changes
-  pub bad-shape : isShaped h (length ks) (length ts) (length vs) ≡ false → Answered c h ks ts vs (refused BadShape) h
+  pub bad-shape : isShaped h (lengths cs) ≡ false → Answered c h cs (refused BadShape) h
   bad-shape e =
-      let q = number-bad h ks ts vs (mapAnswer (roomOf (length ks)) c) e in
+      let q = number-bad h cs (mapAnswer (roomOf (length (cs .keys))) c) e in
       record {
-        reply = say 1 (number c h ks ts vs) (gives c (meaning h ks ts vs)) q;
-        headed = after-refused BadShape (number c h ks ts vs) (headAfter c h (versionsOf (h .used) ks ts vs)) h q;
+        reply = say 1 (number c h cs) (gives c (meaning h cs)) q;
+        headed = after-refused BadShape (number c h cs) (headAfter c h (versionsOf (h .used) cs)) h q;
       }
 
-  module _ (shaped : isShaped h (length ks) (length ts) (length vs) ≡ true) (a : Reply)
-      (d : a ≡ decided c (roomOf (length ks)) (meaning h ks ts vs)) (accepted : Bool) (y : accepted ≡ eqb (a .number) 0) where
+  module _ (shaped : isShaped h (lengths cs) ≡ true) (a : Reply)
+      (d : a ≡ decided c (roomOf (length (cs .keys))) (meaning h cs)) (accepted : Bool) (y : accepted ≡ eqb (a .number) 0) where
     -- what was decided and done is what the call answers
-    pub answered : (head : MapHead) → head ≡ cond accepted (headAfter c h (versionsOf (h .used) ks ts vs)) h → Answered c h ks ts vs a head
+    pub answered : (head : MapHead) → head ≡ cond accepted (headAfter c h (versionsOf (h .used) cs)) h → Answered c h cs a head
     answered head p =
-        let q = number-good h ks ts vs (mapAnswer (roomOf (length ks)) c) shaped in
+        let q = number-good h cs (mapAnswer (roomOf (length (cs .keys))) c) shaped in
         record {
-          reply = replied _ _ (gives c (meaning h ks ts vs)) q a d;
-          headed = changed _ _ (gives c (meaning h ks ts vs)) q a d accepted y _ _ head p;
+          reply = replied _ _ (gives c (meaning h cs)) q a d;
+          headed = changed _ _ (gives c (meaning h cs)) q a d accepted y _ _ head p;
         }
 
-  module _ (shaped : isShaped h (length ks) (length ts) (length vs) ≡ true) (o : Outcome) where
+  module _ (shaped : isShaped h (lengths cs) ≡ true) (o : Outcome) where
     -- a call that is refused changes nothing
-    pub turned-down : (x : Refusal) → (o .head ≡ h) × (o .answer ≡ done.Refused x) → refused x ≡ decided c (roomOf (length ks)) (meaning h ks ts vs)
-        → Answered c h ks ts vs (ofDone (o .answer)) (o .head)
+    pub turned-down : (x : Refusal) → (o .head ≡ h) × (o .answer ≡ done.Refused x) → refused x ≡ decided c (roomOf (length (cs .keys))) (meaning h cs)
+        → Answered c h cs (ofDone (o .answer)) (o .head)
     turned-down x r d = rw (r .0, r .1) (answered shaped (refused x) d false (sym (refused-some x)) h refl)
 
     -- one that is accepted leaves the head that it is to leave
-    pub carried-out : (head : MapHead) → (o .head ≡ head) × (o .answer ≡ done.Accepted) → accepted Absent ≡ decided c (roomOf (length ks)) (meaning h ks ts vs)
-        → head ≡ headAfter c h (versionsOf (h .used) ks ts vs) → Answered c h ks ts vs (ofDone (o .answer)) (o .head)
+    pub carried-out : (head : MapHead) → (o .head ≡ head) × (o .answer ≡ done.Accepted) → accepted Absent ≡ decided c (roomOf (length (cs .keys))) (meaning h cs)
+        → head ≡ headAfter c h (versionsOf (h .used) cs) → Answered c h cs (ofDone (o .answer)) (o .head)
     carried-out head r d e = rw (r .0, r .1) (answered shaped (accepted Absent) d true refl head e)
 
 -- an accepted begin has a number to give
-pub begin-next : (h : MapHead) (ks ts vs : List ℕ) (t : ℕ) (a : Reply) → a ≡ decided (Begin t) (roomOf (length ks)) (meaning h ks ts vs)
+pub begin-next : (h : MapHead) (cs : Columns) (t : ℕ) (a : Reply) → a ≡ decided (Begin t) (roomOf (length (cs .keys))) (meaning h cs)
     → (accepted : Bool) → accepted ≡ eqb (a .number) 0 → accepted ≡ true → h .next < 4294967295
-begin-next h ks ts vs t a d accepted y f =
-    begin-numbered (meaning h ks ts vs) t (is-accepted _ _ (gives (Begin t) (meaning h ks ts vs)) refl a d accepted y f)
+begin-next h cs t a d accepted y f =
+    begin-numbered (meaning h cs) t (is-accepted _ _ (gives (Begin t) (meaning h cs)) refl a d accepted y f)

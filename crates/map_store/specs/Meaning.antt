@@ -119,10 +119,14 @@ abbrev pub updatedPlace : ℕ → Effect → Place → List Version → Place
 updatedPlace k e free vs = free
 updatedPlace k e (taken n s rows) vs = taken n s (note k (orZero (applied e (current k s rows vs))) rows)
 
--- rule 3.8: a version for each row, at the commit time, with the running value
+-- rule 3.8: the version of a row, at the commit time, with the running value
+abbrev pub versionOf : ℕ → Note → Version
+versionOf t r = record { key = r .key; time = t; value = r .value }
+
+-- a version for each row
 abbrev pub stamp : ℕ → List Note → List Version → List Version
 stamp t [] vs = vs
-stamp t (r ∷ rows) vs = record { key = r .key; time = t; value = r .value } ∷ stamp t rows vs
+stamp t (r ∷ rows) vs = versionOf t r ∷ stamp t rows vs
 
 -- what an accepted call makes of the store
 abbrev pub mapAfter : Call → MapStore → MapStore

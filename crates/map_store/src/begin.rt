@@ -5,7 +5,8 @@ ghost use Prim.Native.Nat.{_<_};
 ghost use lib.ListN.{length};
 ghost use Rattle.rules.specs.Calls.{Begin};
 ghost use Rattle.answer.specs.Reply.{ofBegun};
-ghost use Rattle.map_store.specs.Shape.{Shaped, meaning, roomOf};
+ghost use Rattle.versions.specs.Versions.{columns};
+ghost use Rattle.map_store.specs.Shape.{lengths, Shaped, meaning, roomOf};
 ghost use Rattle.map_store.specs.Heads.{begunHead};
 ghost use Rattle.map_store.specs.Contracts.{decided, Answered};
 use crate::MapHead;
@@ -16,8 +17,8 @@ use slot::Slots;
 
 // What a store of good shape answers.
 fn decide(h: MapHead, keys: &[u32], times: &[u64], values: &[u32], t: u64) -> Begun
-    requires { ⌜ Shaped h (length (now keys)) (length (now times)) (length (now values)) ⌝ }
-    ensures { λ r. ⌜ ofBegun r ≡ decided (Begin t) (roomOf (length (now (keys .entry)))) (meaning h (now (keys .entry)) (now (times .entry)) (now (values .entry))) ⌝ }
+    requires { ⌜ Shaped h (lengths (columns (now keys) (now times) (now values))) ⌝ }
+    ensures { λ r. ⌜ ofBegun r ≡ decided (Begin t) (roomOf (length (now (keys .entry)))) (meaning h (columns (now (keys .entry)) (now (times .entry)) (now (values .entry)))) ⌝ }
 {
     if t < h.low {
         return Begun::Refused(Refusal::TooOld);
@@ -55,7 +56,7 @@ fn open(h: MapHead, accepted: bool, t: u64) -> MapHead
 
 // Begins a transaction that reads as of t, and answers its number.
 pub fn begin(h: MapHead, keys: &[u32], times: &[u64], values: &[u32], t: u64) -> Started
-    ensures { λ r. ⌜ Answered (Begin t) h (now (keys .entry)) (now (times .entry)) (now (values .entry)) (ofBegun (r .answer)) (r .head) ⌝ }
+    ensures { λ r. ⌜ Answered (Begin t) h (columns (now (keys .entry)) (now (times .entry)) (now (values .entry))) (ofBegun (r .answer)) (r .head) ⌝ }
 {
     if !crate::shaped(h, keys.len(), times.len(), values.len()) {
         return Started {

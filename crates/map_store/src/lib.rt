@@ -5,7 +5,7 @@ ghost use mathlib.Core.Bool.{true};
 ghost use Rattle.slot.specs.Formed.{Rowed};
 ghost use Rattle.slot.specs.Places.{slotRows};
 ghost use Rattle.versions.specs.Columns.{Lent};
-ghost use Rattle.versions.specs.Versions.{versionsOf};
+ghost use Rattle.versions.specs.Versions.{columns, versionsOf};
 ghost use Rattle.map_store.specs.Meaning.{current};
 ghost use Rattle.map_store.specs.Heads.{withSlots};
 ghost use Rattle.map_store.specs.Shape.{emptyHead, isShaped, Shaped};
@@ -67,8 +67,8 @@ pub struct Outcome {
 // Section 6, number 1, the same for every call: used versions within limit and lent room, three columns of one length, next not 0, no occupied
 // slot with more than 32 keys.
 pub fn shaped(h: MapHead, keys: usize, times: usize, values: usize) -> bool
-    ensures { λ r. ⌜ r ≡ isShaped h keys times values ⌝ }
-    ensures { λ r. ⌜ (r ≡ true → Shaped h keys times values) ⌝ }
+    ensures { λ r. ⌜ r ≡ isShaped h (record { keys = keys; times = times; values = values }) ⌝ }
+    ensures { λ r. ⌜ (r ≡ true → Shaped h (record { keys = keys; times = times; values = values })) ⌝ }
 {
     let used = h.used;
     if used > Version::ROWS {
@@ -118,8 +118,8 @@ fn accepted(h: MapHead, slots: Slots) -> Outcome
 
 // Rule 3.5: what the transaction of a slot reads in k: the running value in its row, or the value at the snapshot where it has none.
 fn current_value(s: Slot, keys: &[u32], times: &[u64], values: &[u32], used: usize, k: u32) -> Value
-    requires { ⌜ Rowed s × Lent used (now keys) (now times) (now values) ⌝ }
-    ensures { λ r. ⌜ r ≡ current k (s .snapshot) (slotRows s) (versionsOf used (now (keys .entry)) (now (times .entry)) (now (values .entry))) ⌝ }
+    requires { ⌜ Rowed s × Lent used (columns (now keys) (now times) (now values)) ⌝ }
+    ensures { λ r. ⌜ r ≡ current k (s .snapshot) (slotRows s) (versionsOf used (columns (now (keys .entry)) (now (times .entry)) (now (values .entry)))) ⌝ }
 {
     let running = s.values;
     match s.find(k) {

@@ -1,10 +1,9 @@
 // Lookup: the value of a key at a time from low to last. Refusals 1, 3, 4, 5.
 ghost use mathlib.Core.Path.{_≡_};
-ghost use lib.ListN.{length};
 ghost use Rattle.answer.specs.Reply.{ofGot, told};
-ghost use Rattle.versions.specs.Versions.{versionsOf, valueAt};
+ghost use Rattle.versions.specs.Versions.{columns, versionsOf, valueAt};
 ghost use Rattle.map_store.specs.Meaning.{lookupRefusal};
-ghost use Rattle.map_store.specs.Shape.{Shaped, meaning};
+ghost use Rattle.map_store.specs.Shape.{lengths, Shaped, meaning};
 ghost use Rattle.map_store.specs.Contracts.{lookupReply};
 use crate::MapHead;
 use answer::Got;
@@ -12,8 +11,8 @@ use answer::Refusal;
 
 // What a store of good shape answers.
 fn decide(h: MapHead, keys: &[u32], times: &[u64], values: &[u32], k: u32, t: u64) -> Got
-    requires { ⌜ Shaped h (length (now keys)) (length (now times)) (length (now values)) ⌝ }
-    ensures { λ r. ⌜ ofGot r ≡ told (lookupRefusal k t (meaning h (now (keys .entry)) (now (times .entry)) (now (values .entry)))) (valueAt k t (versionsOf (h .used) (now (keys .entry)) (now (times .entry)) (now (values .entry)))) ⌝ }
+    requires { ⌜ Shaped h (lengths (columns (now keys) (now times) (now values))) ⌝ }
+    ensures { λ r. ⌜ ofGot r ≡ told (lookupRefusal k t (meaning h (columns (now (keys .entry)) (now (times .entry)) (now (values .entry))))) (valueAt k t (versionsOf (h .used) (columns (now (keys .entry)) (now (times .entry)) (now (values .entry))))) ⌝ }
 {
     if k == 0 {
         return Got::Refused(Refusal::BadKey);
@@ -29,7 +28,7 @@ fn decide(h: MapHead, keys: &[u32], times: &[u64], values: &[u32], k: u32, t: u6
 
 // The value of k at t, or absent.
 pub fn lookup(h: MapHead, keys: &[u32], times: &[u64], values: &[u32], k: u32, t: u64) -> Got
-    ensures { λ r. ⌜ ofGot r ≡ lookupReply k t h (now (keys .entry)) (now (times .entry)) (now (values .entry)) ⌝ }
+    ensures { λ r. ⌜ ofGot r ≡ lookupReply k t h (columns (now (keys .entry)) (now (times .entry)) (now (values .entry))) ⌝ }
 {
     if !crate::shaped(h, keys.len(), times.len(), values.len()) {
         return Got::Refused(Refusal::BadShape);

@@ -9,7 +9,7 @@ ghost use Rattle.answer.specs.Reply.{ofDone};
 ghost use Rattle.slot.specs.Formed.{Rowed};
 ghost use Rattle.slot.specs.Places.{hasKey, slotRows};
 ghost use Rattle.versions.specs.Columns.{Lent};
-ghost use Rattle.versions.specs.Versions.{versionsOf};
+ghost use Rattle.versions.specs.Versions.{columns, versionsOf};
 ghost use Rattle.map_store.specs.Meaning.{current};
 ghost use Rattle.map_store.specs.Contracts.{Answered};
 use crate::MapHead;
@@ -40,8 +40,8 @@ fn running_value(
     k: u32,
     e: Effect,
 ) -> u32
-    requires { ⌜ Rowed s × Lent used (now keys) (now times) (now values) ⌝ }
-    ensures { λ r. ⌜ r ≡ orZero (applied e (current k (s .snapshot) (slotRows s) (versionsOf used (now (keys .entry)) (now (times .entry)) (now (values .entry))))) ⌝ }
+    requires { ⌜ Rowed s × Lent used (columns (now keys) (now times) (now values)) ⌝ }
+    ensures { λ r. ⌜ r ≡ orZero (applied e (current k (s .snapshot) (slotRows s) (versionsOf used (columns (now (keys .entry)) (now (times .entry)) (now (values .entry)))))) ⌝ }
 {
     match e {
         Effect::Assign(v) => v,
@@ -63,7 +63,7 @@ pub fn update(
     k: u32,
     e: Effect,
 ) -> Outcome
-    ensures { λ r. ⌜ Answered (Update n k e) h (now (keys .entry)) (now (times .entry)) (now (values .entry)) (ofDone (r .answer)) (r .head) ⌝ }
+    ensures { λ r. ⌜ Answered (Update n k e) h (columns (now (keys .entry)) (now (times .entry)) (now (values .entry))) (ofDone (r .answer)) (r .head) ⌝ }
 {
     if !crate::shaped(h, keys.len(), times.len(), values.len()) {
         return crate::refused(h, Refusal::BadShape);

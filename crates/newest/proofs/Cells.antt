@@ -7,17 +7,13 @@ use native.Mathlib.Omega.{arith}
 use lib.ListN.{length, getD, take, drop, set, replicate, length-append, length-set, length-replicate, replicate-append-replicate}
 use lib.Seq.{length-take-le, drop-cons, drop-drop, drop-append-add, getD-append-add, getD-drop, set-at, take-at}
 use Rattle.versions.specs.declared.Version.{Version}
-use Rattle.versions.specs.Columns.{column, over, zeroed, settled}
-use Rattle.versions.specs.Laws.{length-column}
+use Rattle.versions.specs.Versions.{Columns}
+use Rattle.versions.specs.Columns.{Long, each, column, over, zeroed, settled}
+use Rattle.versions.specs.Laws.{each-long, none-lent, length-column}
 
--- the columns are as long as they were
-pub record Long (ks ts vs ks' ts' vs' : List ℕ) : Type 0 where
-  pub keys : length ks' ≡ length ks
-  pub times : length ts' ≡ length ts
-  pub values : length vs' ≡ length vs
-
-pub long-set : {ks ts vs ks' ts' vs' : List ℕ} (i x y z : ℕ) → Long ks ts vs ks' ts' vs' → Long ks ts vs (set ks' i x) (set ts' i y) (set vs' i z)
-long-set i x y z l = record { keys = rw length-set (l .keys); times = rw length-set (l .times); values = rw length-set (l .values) }
+-- one cell of each column is written
+pub long-set : {cs cs' : Columns} → Long cs cs' → (i : ℕ) (x : List ℕ → ℕ) → Long cs (each (λ field cells. set cells i (x cells)) cs')
+long-set {cs} l i x = each-long (none-lent cs) (λ field cells. set cells i (x cells)) (λ field cells _. length-set cells i (x cells)) l
 
 module _ (m i : ℕ) (cells : List ℕ) where
   -- a column with one zero more

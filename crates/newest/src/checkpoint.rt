@@ -1,13 +1,12 @@
 // Rule 3.10: a checkpoint keeps the versions after its time and, for each key, its newest at or before it.
 ghost use mathlib.Core.Path.{_≡_};
 ghost use mathlib.Core.Bool.{false, _||_};
-ghost use mathlib.Core.List.{List};
 ghost use Prim.Native.Nat.{ℕ, _≤_, _<_};
 ghost use lib.Dec.{ltb};
 ghost use lib.ListN.{length, getD, take};
 ghost use Rattle.rules.specs.Lists.{among};
-ghost use Rattle.versions.specs.Versions.{versionAt, versionsOf, newest, isRow, stays};
-ghost use Rattle.versions.specs.Columns.{Lent, marked, Moved, Cleared, Kept};
+ghost use Rattle.versions.specs.Versions.{Columns, columns, keyed, versionAt, versionsOf, newest, isRow, stays};
+ghost use Rattle.versions.specs.Columns.{Lent, marked, Moved, cleared, Kept};
 ghost use Rattle.table.specs.Table.{Spare};
 use column::Found;
 use versions::Version;
@@ -39,7 +38,7 @@ fn mark_named(places: &[u32], n: usize, marks: &mut [bool])
 // Marks the newest version of key 0, which no table has.
 fn mark_zero(keys: &[u32], times: &[u64], used: usize, t: u64, marks: &mut [bool])
     requires { ⌜ (used ≤ length (now keys)) × (used ≤ length (now times)) × (used ≤ length (now marks)) ⌝ }
-    ensures { λ _. ⌜ ((values : List ℕ) (i : ℕ) → getD (now (marks .exit)) i false ≡ (isRow i (newest 0 t (versionsOf used (now (keys .entry)) (now (times .entry)) values)) || getD (now (marks .entry)) i false)) ⌝ }
+    ensures { λ _. ⌜ ((others : Columns) (i : ℕ) → getD (now (marks .exit)) i false ≡ (isRow i (newest 0 t (versionsOf used (keyed (now (keys .entry)) (now (times .entry)) others))) || getD (now (marks .entry)) i false)) ⌝ }
 {
     let found = versions::newest_row(keys, times, used, 0, t);
     match found {
@@ -61,7 +60,7 @@ fn mark_kept(
     marks: &mut [bool],
 )
     requires { do ⌜ (used ≤ (← ⟦Version::ROWS⟧)) × (used ≤ length (now keys)) × (used ≤ length (now times)) × Spare (now listed) (now places) used × (used ≤ length (now marks)) ⌝ }
-    ensures { λ _. ⌜ ((values : List ℕ) (i : ℕ) → i < used → getD (now (marks .exit)) i false ≡ stays t (versionsOf used (now (keys .entry)) (now (times .entry)) values) i (versionAt i (now (keys .entry)) (now (times .entry)) values)) ⌝ }
+    ensures { λ _. ⌜ ((others : Columns) (i : ℕ) → i < used → getD (now (marks .exit)) i false ≡ stays t (versionsOf used (keyed (now (keys .entry)) (now (times .entry)) others)) i (versionAt i (keyed (now (keys .entry)) (now (times .entry)) others))) ⌝ }
 {
     let n = crate::newest_rows(keys, times, used, t, listed, places);
     mark_late(times, used, t, marks);
@@ -77,8 +76,8 @@ fn move_up(
     used: usize,
     marks: &[bool],
 ) -> usize
-    requires { ⌜ Lent used (now keys) (now times) (now values) × (used ≤ length (now marks)) ⌝ }
-    ensures { λ r. ⌜ Moved (marked (now (marks .entry)) (versionsOf used (now (keys .entry)) (now (times .entry)) (now (values .entry)))) (now (keys .entry)) (now (times .entry)) (now (values .entry)) (now (keys .exit)) (now (times .exit)) (now (values .exit)) r ⌝ }
+    requires { ⌜ Lent used (columns (now keys) (now times) (now values)) × (used ≤ length (now marks)) ⌝ }
+    ensures { λ r. ⌜ Moved (marked (now (marks .entry)) (versionsOf used (columns (now (keys .entry)) (now (times .entry)) (now (values .entry))))) (columns (now (keys .entry)) (now (times .entry)) (now (values .entry))) (columns (now (keys .exit)) (now (times .exit)) (now (values .exit))) r ⌝ }
 {
     let mut kept = 0;
     let mut i = 0;
@@ -96,8 +95,8 @@ fn move_up(
 
 // Makes the rows from `from` up to `to` zero.
 fn clear(keys: &mut [u32], times: &mut [u64], values: &mut [u32], from: usize, to: usize)
-    requires { ⌜ Lent to (now keys) (now times) (now values) × (from ≤ to) ⌝ }
-    ensures { λ _. ⌜ Cleared from to (now (keys .entry)) (now (times .entry)) (now (values .entry)) (now (keys .exit)) (now (times .exit)) (now (values .exit)) ⌝ }
+    requires { ⌜ Lent to (columns (now keys) (now times) (now values)) × (from ≤ to) ⌝ }
+    ensures { λ _. ⌜ columns (now (keys .exit)) (now (times .exit)) (now (values .exit)) ≡ cleared from to (columns (now (keys .entry)) (now (times .entry)) (now (values .entry))) ⌝ }
 {
     let mut i = from;
     while i < to {
@@ -119,8 +118,8 @@ fn keep(
     places: &mut [u32],
     marks: &mut [bool],
 ) -> usize
-    requires { do ⌜ Lent used (now keys) (now times) (now values) × (used ≤ (← ⟦Version::ROWS⟧)) × Spare (now listed) (now places) used × (used ≤ length (now marks)) ⌝ }
-    ensures { λ r. ⌜ Kept t used (now (keys .entry)) (now (times .entry)) (now (values .entry)) (now (keys .exit)) (now (times .exit)) (now (values .exit)) r ⌝ }
+    requires { do ⌜ Lent used (columns (now keys) (now times) (now values)) × (used ≤ (← ⟦Version::ROWS⟧)) × Spare (now listed) (now places) used × (used ≤ length (now marks)) ⌝ }
+    ensures { λ r. ⌜ Kept t used (columns (now (keys .entry)) (now (times .entry)) (now (values .entry))) (columns (now (keys .exit)) (now (times .exit)) (now (values .exit))) r ⌝ }
 {
     mark_kept(keys, times, used, t, listed, places, marks);
     let kept = move_up(keys, times, values, used, marks);
@@ -130,8 +129,8 @@ fn keep(
 
 // A checkpoint of few versions, so that small columns are enough.
 fn keep_few(keys: &mut [u32], times: &mut [u64], values: &mut [u32], used: usize, t: u64) -> usize
-    requires { do ⌜ Lent used (now keys) (now times) (now values) × (used < (← ⟦Version::FEW⟧)) ⌝ }
-    ensures { λ r. ⌜ Kept t used (now (keys .entry)) (now (times .entry)) (now (values .entry)) (now (keys .exit)) (now (times .exit)) (now (values .exit)) r ⌝ }
+    requires { do ⌜ Lent used (columns (now keys) (now times) (now values)) × (used < (← ⟦Version::FEW⟧)) ⌝ }
+    ensures { λ r. ⌜ Kept t used (columns (now (keys .entry)) (now (times .entry)) (now (values .entry))) (columns (now (keys .exit)) (now (times .exit)) (now (values .exit))) r ⌝ }
 {
     let mut listed = [0u32; Version::FEW];
     let mut places = [0u32; Version::FEW];
@@ -156,8 +155,8 @@ pub fn keep_from(
     used: usize,
     t: u64,
 ) -> usize
-    requires { do ⌜ Lent used (now keys) (now times) (now values) × (used ≤ (← ⟦Version::ROWS⟧)) ⌝ }
-    ensures { λ r. ⌜ Kept t used (now (keys .entry)) (now (times .entry)) (now (values .entry)) (now (keys .exit)) (now (times .exit)) (now (values .exit)) r ⌝ }
+    requires { do ⌜ Lent used (columns (now keys) (now times) (now values)) × (used ≤ (← ⟦Version::ROWS⟧)) ⌝ }
+    ensures { λ r. ⌜ Kept t used (columns (now (keys .entry)) (now (times .entry)) (now (values .entry))) (columns (now (keys .exit)) (now (times .exit)) (now (values .exit))) r ⌝ }
 {
     if used < Version::FEW {
         return keep_few(keys, times, values, used, t);

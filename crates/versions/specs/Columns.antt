@@ -1,23 +1,40 @@
--- What the calls make of the three lent columns. Assumes nothing.
+-- What the calls make of the lent columns. Assumes nothing.
 use mathlib.Core.Path.{_≡_}
 use mathlib.Core.Bool.{Bool, false, cond}
 use mathlib.Core.List.{List, [], _∷_, _++_}
 use Prim.Native.Nat.{ℕ, _-_, _≤_}
 use lib.ListN.{length, getD, take, drop, set, replicate}
 use Rattle.versions.specs.declared.Version.{Version}
-use Rattle.versions.specs.Versions.{versionsOf, keptFrom}
+use Rattle.versions.specs.Versions.{Columns, versionsOf, keptFrom}
 
 -- so many rows are lent in each column
-pub record Lent (rows : ℕ) (ks ts vs : List ℕ) : Type 0 where
-  pub keys : rows ≤ length ks
-  pub times : rows ≤ length ts
-  pub values : rows ≤ length vs
+pub record Lent (rows : ℕ) (cs : Columns) : Type 0 where
+  pub keys : rows ≤ length (cs .keys)
+  pub times : rows ≤ length (cs .times)
+  pub values : rows ≤ length (cs .values)
 
--- row n of each column is written, and no other
-pub record Appended (n k t v : ℕ) (ks ts vs ks' ts' vs' : List ℕ) : Type 0 where
-  pub keys : ks' ≡ set ks n k
-  pub times : ts' ≡ set ts n t
-  pub values : vs' ≡ set vs n v
+-- the second columns are as long as the first
+pub record Long (cs cs' : Columns) : Type 0 where
+  pub keys : length (cs' .keys) ≡ length (cs .keys)
+  pub times : length (cs' .times) ≡ length (cs .times)
+  pub values : length (cs' .values) ≡ length (cs .values)
+
+-- each column changed in one way, which goes by the field of a version that stands there
+abbrev pub each : ((Version → ℕ) → List ℕ → List ℕ) → Columns → Columns
+each change cs =
+    record {
+      keys = change (λ v. v .key) (cs .keys);
+      times = change (λ v. v .time) (cs .times);
+      values = change (λ v. v .value) (cs .values);
+    }
+
+-- a version in row n, and all else as it was
+abbrev pub withVersion : ℕ → Version → Columns → Columns
+withVersion n v cs = each (λ field cells. set cells n (field v)) cs
+
+-- the first n rows
+abbrev pub front : ℕ → Columns → Columns
+front n cs = each (λ field cells. take n cells) cs
 
 -- one field of the versions, in the order of their rows
 abbrev pub column : (Version → ℕ) → List Version → List ℕ
@@ -34,28 +51,27 @@ abbrev pub over : (Version → ℕ) → List Version → List ℕ → List ℕ
 over field vs cells = column field vs ++ drop (length vs) cells
 
 -- the columns after versions moved up, n of them
-pub record Moved (rows : List Version) (ks ts vs ks' ts' vs' : List ℕ) (n : ℕ) : Type 0 where
+pub record Moved (rows : List Version) (cs cs' : Columns) (n : ℕ) : Type 0 where
   pub count : n ≡ length rows
-  pub keys : ks' ≡ over (λ v. v .key) rows ks
-  pub times : ts' ≡ over (λ v. v .time) rows ts
-  pub values : vs' ≡ over (λ v. v .value) rows vs
+  pub cells : cs' ≡ each (λ field. over field rows) cs
 
 -- a column whose rows from m up to n are zero
 abbrev pub zeroed : ℕ → ℕ → List ℕ → List ℕ
 zeroed m n cells = take m cells ++ (replicate (n - m) 0 ++ drop n cells)
 
-pub record Cleared (m n : ℕ) (ks ts vs ks' ts' vs' : List ℕ) : Type 0 where
-  pub keys : ks' ≡ zeroed m n ks
-  pub times : ts' ≡ zeroed m n ts
-  pub values : vs' ≡ zeroed m n vs
+-- the columns with these rows zero
+abbrev pub cleared : ℕ → ℕ → Columns → Columns
+cleared m n cs = each (λ field. zeroed m n) cs
 
 -- a column of n used rows after a checkpoint: what is kept, then zeros where rows are freed, then what stood behind the used rows
 abbrev pub settled : (Version → ℕ) → List Version → ℕ → List ℕ → List ℕ
 settled field kept n cells = column field kept ++ (replicate (n - length kept) 0 ++ drop n cells)
 
--- the columns of n used rows after a checkpoint at T, and how many versions they have
-pub record Kept (T n : ℕ) (ks ts vs ks' ts' vs' : List ℕ) (r : ℕ) : Type 0 where
-  pub count : r ≡ length (keptFrom T (versionsOf n ks ts vs))
-  pub keys : ks' ≡ settled (λ v. v .key) (keptFrom T (versionsOf n ks ts vs)) n ks
-  pub times : ts' ≡ settled (λ v. v .time) (keptFrom T (versionsOf n ks ts vs)) n ts
-  pub values : vs' ≡ settled (λ v. v .value) (keptFrom T (versionsOf n ks ts vs)) n vs
+-- the columns of n used rows after a checkpoint at T
+abbrev pub thinned : ℕ → ℕ → Columns → Columns
+thinned T n cs = each (λ field. settled field (keptFrom T (versionsOf n cs)) n) cs
+
+-- these, and how many versions they have
+pub record Kept (T n : ℕ) (cs cs' : Columns) (r : ℕ) : Type 0 where
+  pub count : r ≡ length (keptFrom T (versionsOf n cs))
+  pub cells : cs' ≡ thinned T n cs

@@ -2,24 +2,18 @@
 use mathlib.Core.Path.{_≡_, refl}
 use mathlib.Core.Bool.{true, false}
 use mathlib.Core.List.{List, [], _∷_}
-use Prim.Native.Nat.{ℕ}
 use Rattle.column.specs.declared.Found.the-variants as found
 use Rattle.rules.specs.declared.Value.the-variants.{Absent, Present}
 use Rattle.versions.specs.declared.Version.{Version}
-use Rattle.versions.specs.Versions.{versionsOf, newest, rowOf, valueAt, later, keptFrom, listAt}
-use Rattle.versions.specs.Columns.{column, settled}
+use Rattle.versions.specs.Versions.{Columns, columns, versionsOf, newest, rowOf, valueAt, later, keptFrom, listAt}
+use Rattle.versions.specs.Columns.{column, thinned}
 
-abbrev keys : List ℕ
-keys = 5 ∷ 7 ∷ 5 ∷ 5 ∷ 9 ∷ []
-
-abbrev times : List ℕ
-times = 1 ∷ 2 ∷ 3 ∷ 3 ∷ 1 ∷ []
-
-abbrev values : List ℕ
-values = 10 ∷ 20 ∷ 30 ∷ 0 ∷ 40 ∷ []
+-- five rows, of which the last is not used
+abbrev cells : Columns
+cells = columns (5 ∷ 7 ∷ 5 ∷ 5 ∷ 9 ∷ []) (1 ∷ 2 ∷ 3 ∷ 3 ∷ 1 ∷ []) (10 ∷ 20 ∷ 30 ∷ 0 ∷ 40 ∷ [])
 
 abbrev four : List Version
-four = versionsOf 4 keys times values
+four = versionsOf 4 cells
 
 -- the earliest row among equals
 earliest : rowOf (newest 5 9 four) ≡ found.At 2
@@ -55,8 +49,8 @@ kept-at-2 : column (λ v. v .value) (keptFrom 2 four) ≡ 10 ∷ 20 ∷ 30 ∷ 0
 kept-at-2 = refl
 
 -- freed rows are zero, and the row behind the used ones stays
-settled-at-3 : settled (λ v. v .key) (keptFrom 3 four) 4 keys ≡ 7 ∷ 5 ∷ 0 ∷ 0 ∷ 9 ∷ []
-settled-at-3 = refl
+thinned-at-3 : thinned 3 4 cells ≡ columns (7 ∷ 5 ∷ 0 ∷ 0 ∷ 9 ∷ []) (2 ∷ 3 ∷ 0 ∷ 0 ∷ 1 ∷ []) (20 ∷ 30 ∷ 0 ∷ 0 ∷ 40 ∷ [])
+thinned-at-3 = refl
 
 -- the list at 3
 list-at-3 : listAt four 3 ≡ record { key = 5; value = 30 } ∷ record { key = 7; value = 20 } ∷ []

@@ -10,7 +10,7 @@ use lib.Dec.{eqb, ltb}
 use lib.ListN.{length, getD, take, drop, length-drop}
 use lib.Seq.{drop-cons, drop-length, getD-take, getD-drop, length-take-le}
 use Rattle.rules.specs.Bools.{split, or-left, or-right, or-none-left, or-none-right, and-false, or-false}
-use Rattle.versions.specs.Versions.{versionsOf, newest, later}
+use Rattle.versions.specs.Versions.{Columns, versionsOf, newest, later}
 use Rattle.versions.specs.Search.{some, Passed, Early}
 
 -- where no cell passes the test, none of them does
@@ -45,38 +45,38 @@ none-from p i e cells l h j a b =
     in
     rw (getD-take (e - i) (drop i cells) (j - i) 0 (omega arith), getD-drop i cells (j - i) 0, q) at w
 
-module _ (k : ℕ) (ks ts vs : List ℕ) where
+module _ (k : ℕ) (cs : Columns) where
   -- rows without the key
   abbrev Without : ℕ → ℕ → Type 0
-  Without i m = (j : ℕ) → i ≤ j → j < i + m → getD ks j 0 ≡ k → ⊥
+  Without i m = (j : ℕ) → i ≤ j → j < i + m → getD (cs .keys) j 0 ≡ k → ⊥
 
-  newest-past : (t i m : ℕ) → Without i m → newest k t (versionsOf (i + m) ks ts vs) ≡ newest k t (versionsOf i ks ts vs)
+  newest-past : (t i m : ℕ) → Without i m → newest k t (versionsOf (i + m) cs) ≡ newest k t (versionsOf i cs)
   newest-past t i zero h = let e : i + 0 ≡ i = omega arith in rw e
   newest-past t i (suc m) h =
       let e : i + suc m ≡ suc (i + m) = omega arith in
-      rw (e, ne-eqb (getD ks (i + m) 0) k (h (i + m) (omega arith) (omega arith))) (newest-past t i m (λ j a b. h j a (omega arith)))
+      rw (e, ne-eqb (getD (cs .keys) (i + m) 0) k (h (i + m) (omega arith) (omega arith))) (newest-past t i m (λ j a b. h j a (omega arith)))
 
-  later-past : (s i m : ℕ) → Without i m → later s k (versionsOf (i + m) ks ts vs) ≡ later s k (versionsOf i ks ts vs)
+  later-past : (s i m : ℕ) → Without i m → later s k (versionsOf (i + m) cs) ≡ later s k (versionsOf i cs)
   later-past s i zero h = let e : i + 0 ≡ i = omega arith in rw e
   later-past s i (suc m) h =
       let e : i + suc m ≡ suc (i + m) = omega arith in
-      rw (e, ne-eqb (getD ks (i + m) 0) k (h (i + m) (omega arith) (omega arith))) (later-past s i m (λ j a b. h j a (omega arith)))
+      rw (e, ne-eqb (getD (cs .keys) (i + m) 0) k (h (i + m) (omega arith) (omega arith))) (later-past s i m (λ j a b. h j a (omega arith)))
 
-  module _ {i n r : ℕ} (w : Passed k ks i n r) where
+  module _ {i n r : ℕ} (w : Passed k (cs .keys) i n r) where
     without : Without i (r - i)
     without j a b = w .none j a (omega (arith, w .from))
 
-    pub newest-passed : (t : ℕ) → newest k t (versionsOf r ks ts vs) ≡ newest k t (versionsOf i ks ts vs)
+    pub newest-passed : (t : ℕ) → newest k t (versionsOf r cs) ≡ newest k t (versionsOf i cs)
     newest-passed t = let e : i + (r - i) ≡ r = omega (arith, w .from) in rw e at (newest-past t i (r - i) without)
 
-    pub later-passed : (s : ℕ) → later s k (versionsOf r ks ts vs) ≡ later s k (versionsOf i ks ts vs)
+    pub later-passed : (s : ℕ) → later s k (versionsOf r cs) ≡ later s k (versionsOf i cs)
     later-passed s = let e : i + (r - i) ≡ r = omega (arith, w .from) in rw e at (later-past s i (r - i) without)
 
   -- no version of early rows is later
-  pub early-none : (s n : ℕ) → Early s ts n → later s k (versionsOf n ks ts vs) ≡ false
+  pub early-none : (s n : ℕ) → Early s (cs .times) n → later s k (versionsOf n cs) ≡ false
   early-none s zero h = refl
   early-none s (suc n) h =
-      rw (le-ltb s (getD ts n 0) (h n (omega arith)), and-false (eqb (getD ks n 0) k)) (early-none s n (λ j l. h j (omega arith)))
+      rw (le-ltb s (getD (cs .times) n 0) (h n (omega arith)), and-false (eqb (getD (cs .keys) n 0) k)) (early-none s n (λ j l. h j (omega arith)))
 
 module _ (k : ℕ) (ks : List ℕ) (m n : ℕ) where
   -- nothing is passed yet

@@ -13,14 +13,32 @@ use Rattle.rules.specs.Values.{Row}
 use Rattle.rules.specs.Lists.{listed}
 use Rattle.versions.specs.declared.Version.{Version}
 
--- row i of the columns of keys, times and values
-abbrev pub versionAt : ℕ → List ℕ → List ℕ → List ℕ → Version
-versionAt i keys times values = record { key = getD keys i 0; time = getD times i 0; value = getD values i 0 }
+-- the lent columns: row i of each belongs to one version
+pub record Columns : Type 0 where
+  pub keys : List ℕ
+  pub times : List ℕ
+  pub values : List ℕ
+
+-- the columns as they are lent, side by side
+abbrev pub columns : List ℕ → List ℕ → List ℕ → Columns
+columns keys times values = record { keys = keys; times = times; values = values }
+
+-- columns without rows
+abbrev pub noColumns : Columns
+noColumns = columns [] [] []
+
+-- columns with these keys and times: a search reads no others, so that these may be any
+abbrev pub keyed : List ℕ → List ℕ → Columns → Columns
+keyed keys times others = record { keys = keys; times = times; values = others .values }
+
+-- the version in row i
+abbrev pub versionAt : ℕ → Columns → Version
+versionAt i cs = record { key = getD (cs .keys) i 0; time = getD (cs .times) i 0; value = getD (cs .values) i 0 }
 
 -- the first n rows of the columns, the last one first
-abbrev pub versionsOf : ℕ → List ℕ → List ℕ → List ℕ → List Version
-versionsOf zero keys times values = []
-versionsOf (suc n) keys times values = versionAt n keys times values ∷ versionsOf n keys times values
+abbrev pub versionsOf : ℕ → Columns → List Version
+versionsOf zero cs = []
+versionsOf (suc n) cs = versionAt n cs ∷ versionsOf n cs
 
 -- what a search finds: nothing, or a version's row, time and value
 pub data Best : Type 0 where

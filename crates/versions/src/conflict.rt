@@ -2,11 +2,10 @@
 // in a store that calls wrote these are all that were there when it began.
 ghost use mathlib.Core.Path.{_≡_};
 ghost use mathlib.Core.Bool.{false};
-ghost use mathlib.Core.List.{List};
-ghost use Prim.Native.Nat.{ℕ, _≤_};
+ghost use Prim.Native.Nat.{_≤_};
 ghost use lib.Dec.{ltb};
 ghost use lib.ListN.{length};
-ghost use Rattle.versions.specs.Versions.{versionsOf, later};
+ghost use Rattle.versions.specs.Versions.{Columns, keyed, versionsOf, later};
 ghost use Rattle.versions.specs.Search.{some, Early, FirstLate};
 use crate::Version;
 
@@ -58,8 +57,8 @@ pub fn first_late(times: &[u64], used: usize, s: u64) -> usize
 
 // Whether there is a version of k later than s up to row `to`, where there is none before row `from`: the rows between, one by one.
 fn is_later_among(keys: &[u32], times: &[u64], from: usize, to: usize, k: u32, s: u64) -> bool
-    requires { ⌜ (from ≤ to) × (to ≤ length (now keys)) × (to ≤ length (now times)) × ((values : List ℕ) → later s k (versionsOf from (now keys) (now times) values) ≡ false) ⌝ }
-    ensures { λ r. ⌜ ((values : List ℕ) → r ≡ later s k (versionsOf to (now (keys .entry)) (now (times .entry)) values)) ⌝ }
+    requires { ⌜ (from ≤ to) × (to ≤ length (now keys)) × (to ≤ length (now times)) × ((others : Columns) → later s k (versionsOf from (keyed (now keys) (now times) others)) ≡ false) ⌝ }
+    ensures { λ r. ⌜ ((others : Columns) → r ≡ later s k (versionsOf to (keyed (now (keys .entry)) (now (times .entry)) others))) ⌝ }
 {
     let mut i = from;
     while i < to {
@@ -76,7 +75,7 @@ fn is_later_among(keys: &[u32], times: &[u64], from: usize, to: usize, k: u32, s
 // Rule 3.6: whether there is a version of k later than s, where the rows before `from` have no later time.
 pub fn is_later(keys: &[u32], times: &[u64], from: usize, used: usize, k: u32, s: u64) -> bool
     requires { ⌜ (from ≤ used) × (used ≤ length (now keys)) × (used ≤ length (now times)) × Early s (now times) from ⌝ }
-    ensures { λ r. ⌜ ((values : List ℕ) → r ≡ later s k (versionsOf used (now (keys .entry)) (now (times .entry)) values)) ⌝ }
+    ensures { λ r. ⌜ ((others : Columns) → r ≡ later s k (versionsOf used (keyed (now (keys .entry)) (now (times .entry)) others))) ⌝ }
 {
     let mut i = from;
     loop {

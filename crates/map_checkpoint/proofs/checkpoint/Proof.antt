@@ -6,6 +6,7 @@ use denote.Ref.{now}
 use Rattle.rules.specs.declared.Value.the-variants.{Absent}
 use Rattle.answer.specs.declared.Refusal.the-variants.{TooOld, Future, Held}
 use Rattle.slot.specs.PlaceLaws.{holds-slots}
+use Rattle.versions.specs.Versions.{columns}
 use Rattle.map_store.specs.Meaning.{checkpointRefusal}
 use Rattle.map_store.specs.Shape.{meaning}
 use Rattle.map_store.specs.Laws.{lent}
@@ -25,8 +26,9 @@ returns c =
     let t1 = c .before in
     let sh = t1 .before in
     let a = sh .before .before .before .before .args in
+    let cs = columns (now (a .keys)) (now (a .times)) (now (a .values)) in
     rw (c .refused .ensures .0, c .refused .ensures .1)
-    (checkpoint-bad-shape (a .t) (a .h) (now (a .keys)) (now (a .times)) (now (a .values)) (sym (sh .shaped .ensures .0) ∙ not-true _ (t1 .if1 .taken)))
+    (checkpoint-bad-shape (a .t) (a .h) cs (sym (sh .shaped .ensures .0) ∙ not-true _ (t1 .if1 .taken)))
 
 refused-requires-2 : tie.Need-refused-requires-2
 refused-requires-2 c κs = search needs
@@ -37,8 +39,9 @@ returns-2 c =
     let e1 = t2 .before .before in
     let sh = e1 .before in
     let a = sh .before .before .before .before .args in
-    let m = meaning (a .h) (now (a .keys)) (now (a .times)) (now (a .values)) in
-    checkpoint-turned-down (a .t) (a .h) (now (a .keys)) (now (a .times)) (now (a .values)) (sym (sh .shaped .ensures .0) ∙ not-false _ (e1 .if1 .left)) _
+    let cs = columns (now (a .keys)) (now (a .times)) (now (a .values)) in
+    let m = meaning (a .h) cs in
+    checkpoint-turned-down (a .t) (a .h) cs (sym (sh .shaped .ensures .0) ∙ not-false _ (e1 .if1 .left)) _
     TooOld (c .refused2 .ensures) (say 4 (checkpointRefusal (a .t) m) Absent (time-old m (a .t) _ (t2 .if2 .taken)))
 
 refused-requires-3 : tie.Need-refused-requires-3
@@ -51,8 +54,9 @@ returns-3 c =
     let e1 = e2 .before .before in
     let sh = e1 .before in
     let a = sh .before .before .before .before .args in
-    let m = meaning (a .h) (now (a .keys)) (now (a .times)) (now (a .values)) in
-    checkpoint-turned-down (a .t) (a .h) (now (a .keys)) (now (a .times)) (now (a .values)) (sym (sh .shaped .ensures .0) ∙ not-false _ (e1 .if1 .left)) _
+    let cs = columns (now (a .keys)) (now (a .times)) (now (a .values)) in
+    let m = meaning (a .h) cs in
+    checkpoint-turned-down (a .t) (a .h) cs (sym (sh .shaped .ensures .0) ∙ not-false _ (e1 .if1 .left)) _
     Future (c .refused3 .ensures) (say 5 (checkpointRefusal (a .t) m) Absent (time-future m (a .t) _ (e2 .if2 .left) (t3 .if3 .taken)))
 
 holds-requires : tie.Need-holds-requires
@@ -70,8 +74,9 @@ returns-4 c =
     let e1 = e2 .before .before in
     let sh = e1 .before in
     let a = sh .before .before .before .before .args in
-    let m = meaning (a .h) (now (a .keys)) (now (a .times)) (now (a .values)) in
-    checkpoint-turned-down (a .t) (a .h) (now (a .keys)) (now (a .times)) (now (a .values)) (sym (sh .shaped .ensures .0) ∙ not-false _ (e1 .if1 .left)) _
+    let cs = columns (now (a .keys)) (now (a .times)) (now (a .values)) in
+    let m = meaning (a .h) cs in
+    checkpoint-turned-down (a .t) (a .h) cs (sym (sh .shaped .ensures .0) ∙ not-false _ (e1 .if1 .left)) _
     Held (c .refused4 .ensures)
     (say 9 (checkpointRefusal (a .t) m) Absent
     (checkpoint-held m (a .t) (e2 .if2 .left) (e3 .if3 .left) _ (ho .holds .ensures ∙ sym (holds-slots (a .h .slots) (a .t))) (t4 .if4 .taken)))
@@ -82,8 +87,9 @@ keep-from-requires c κs =
     let e1 = e4 .before .before .before .before .before .before .before in
     let sh = e1 .before in
     let a = sh .before .before .before .before .args in
+    let cs = columns (now (a .keys)) (now (a .times)) (now (a .values)) in
     let w = sh .shaped .ensures .1 (not-false _ (e1 .if1 .left)) in
-    (lent (a .h) (now (a .keys)) (now (a .times)) (now (a .values)) w, w .limit)
+    (lent (a .h) cs w, w .limit)
 
 same-length : tie.Need-same-length
 same-length c = search needs
@@ -104,8 +110,9 @@ returns-5 c =
     let e1 = e2 .before .before in
     let sh = e1 .before in
     let a = sh .before .before .before .before .args in
-    let m = meaning (a .h) (now (a .keys)) (now (a .times)) (now (a .values)) in
-    checkpoint-carried-out (a .t) (a .h) (now (a .keys)) (now (a .times)) (now (a .values)) (sym (sh .shaped .ensures .0) ∙ not-false _ (e1 .if1 .left)) _ _ _ _
+    let cs = columns (now (a .keys)) (now (a .times)) (now (a .values)) in
+    let m = meaning (a .h) cs in
+    checkpoint-carried-out (a .t) (a .h) cs (sym (sh .shaped .ensures .0) ∙ not-false _ (e1 .if1 .left)) _ _
     (say 0 (checkpointRefusal (a .t) m) Absent
     (checkpoint-done m (a .t) (e2 .if2 .left) (e3 .if3 .left) _ (ho .holds .ensures ∙ sym (holds-slots (a .h .slots) (a .t))) (e4 .if4 .left)))
     (kf .keep-from .ensures)

@@ -1,7 +1,6 @@
 -- `map_commit::commit` meets its contract: a law for each way out. Assumes nothing.
 use mathlib.Core.Path.{_≡_, sym, ap, _∙_}
 use mathlib.Core.Bool.{true}
-use mathlib.Core.List.{List}
 use Prim.Native.Nat.{ℕ, _+_, _≤_}
 use native.Mathlib.Omega.{arith}
 use lib.ListN.{length}
@@ -17,6 +16,7 @@ use Rattle.slot.specs.declared.Slots.{Slots}
 use Rattle.slot.specs.Slots.{slotAt, slotOf, closedIn}
 use Rattle.slot.specs.Places.{slotRows}
 use Rattle.slot.specs.RowLaws.{length-rows}
+use Rattle.versions.specs.Versions.{Columns, columns}
 use Rattle.versions.specs.Laws.{length-versions}
 use Rattle.map_store.specs.declared.MapHead.{MapHead}
 use Rattle.map_store.specs.Meaning.{firsts, mapAnswer}
@@ -29,15 +29,13 @@ use Rattle.map_commit.proofs.commit.Statement.{statement}
 use Rattle.map_commit.proofs.commit.Tie as tie
 
 -- the rows that count are written, and the slot that was found is freed
-freed : (n t : ℕ) (h : MapHead) (ks ts vs ks' ts' vs' : List ℕ) (f : Found) → f ≡ slotOf (h .slots) n → (i : ℕ) → f ≡ At i → (r : ℕ)
-    → Stamped t (h .used) (firsts (slotRows (slotAt (h .slots) i))) ks ts vs ks' ts' vs' r → (z : Slots) → z ≡ closedIn (h .slots) i
-    → Put n t h ks ts vs true (record { low = h .low; last = t; next = h .next; used = r; slots = z }) ks' ts' vs'
-freed n t h ks ts vs ks' ts' vs' f e i g r w z q =
+freed : (n t : ℕ) (h : MapHead) (cs cs' : Columns) (f : Found) → f ≡ slotOf (h .slots) n → (i : ℕ) → f ≡ At i → (r : ℕ)
+    → Stamped t (h .used) (firsts (slotRows (slotAt (h .slots) i))) cs cs' r → (z : Slots) → z ≡ closedIn (h .slots) i
+    → Put n t h cs true (record { low = h .low; last = t; next = h .next; used = r; slots = z }) cs'
+freed n t h cs cs' f e i g r w z q =
     record {
       headed = rw (sym e ∙ g, w .count, q);
-      keys = rw (sym e ∙ g) (w .keys);
-      times = rw (sym e ∙ g) (w .times);
-      values = rw (sym e ∙ g) (w .values);
+      cells = rw (sym e ∙ g) (w .cells);
     }
 
 shaped-requires : tie.Need-shaped-requires
@@ -51,8 +49,9 @@ returns c =
     let t1 = c .before in
     let sh = t1 .before in
     let a = sh .before .before .before .before .args in
+    let cs = columns (now (a .keys)) (now (a .times)) (now (a .values)) in
     rw (c .refused .ensures .0, c .refused .ensures .1)
-    (commit-bad-shape (a .n) (a .t) (a .h) (now (a .keys)) (now (a .times)) (now (a .values)) (sym (sh .shaped .ensures .0) ∙ not-true _ (t1 .if1 .taken)))
+    (commit-bad-shape (a .n) (a .t) (a .h) cs (sym (sh .shaped .ensures .0) ∙ not-true _ (t1 .if1 .taken)))
 
 find-requires : tie.Need-find-requires
 find-requires c κs = search needs
@@ -73,8 +72,9 @@ returns-2 c =
     let e1 = fd .before .before in
     let sh = e1 .before in
     let a = sh .before .before .before .before .args in
-    let m = meaning (a .h) (now (a .keys)) (now (a .times)) (now (a .values)) in
-    commit-turned-down (a .n) (a .t) (a .h) (now (a .keys)) (now (a .times)) (now (a .values)) (sym (sh .shaped .ensures .0) ∙ not-false _ (e1 .if1 .left)) _
+    let cs = columns (now (a .keys)) (now (a .times)) (now (a .values)) in
+    let m = meaning (a .h) cs in
+    commit-turned-down (a .n) (a .t) (a .h) cs (sym (sh .shaped .ensures .0) ∙ not-false _ (e1 .if1 .left)) _
     UnknownTransaction (c .refused2 .ensures)
     (say 2 (mapAnswer (roomOf (length (now (a .keys)))) (Commit (a .n) (a .t)) m) Absent
     (commit-unknown m (a .n) (place-none (a .h .slots) (a .n) _ (fd .find .ensures .0) (et .enum-told .given .1)) (roomOf (length (now (a .keys)))) (a .t)))
@@ -90,8 +90,9 @@ returns-3 c =
     let e1 = fd .before .before in
     let sh = e1 .before in
     let a = sh .before .before .before .before .args in
-    let m = meaning (a .h) (now (a .keys)) (now (a .times)) (now (a .values)) in
-    commit-turned-down (a .n) (a .t) (a .h) (now (a .keys)) (now (a .times)) (now (a .values)) (sym (sh .shaped .ensures .0) ∙ not-false _ (e1 .if1 .left)) _
+    let cs = columns (now (a .keys)) (now (a .times)) (now (a .values)) in
+    let m = meaning (a .h) cs in
+    commit-turned-down (a .n) (a .t) (a .h) cs (sym (sh .shaped .ensures .0) ∙ not-false _ (e1 .if1 .left)) _
     NotLater (c .refused3 .ensures)
     (say 10 (mapAnswer (roomOf (length (now (a .keys)))) (Commit (a .n) (a .t)) m) Absent
     (commit-later m (a .n) _ _ _ (place-found (a .h .slots) (a .n) _ (fd .find .ensures .0) _ (fo .found .given .1)) (roomOf (length (now (a .keys)))) (a .t) (t2 .if2 .taken)))
@@ -116,8 +117,9 @@ conflicts-requires c κs =
     let e1 = fd .before .before in
     let sh = e1 .before in
     let a = sh .before .before .before .before .args in
+    let cs = columns (now (a .keys)) (now (a .times)) (now (a .values)) in
     let w = sh .shaped .ensures .1 (not-false _ (e1 .if1 .left)) in
-    let l = lent (a .h) (now (a .keys)) (now (a .times)) (now (a .values)) w in
+    let l = lent (a .h) cs w in
     (rowed-found (a .h .slots) (a .n) _ (fd .find .ensures .0) _ (fo .found .given .1) (w .formed), l .keys, l .times)
 
 refused-requires-4 : tie.Need-refused-requires-4
@@ -139,12 +141,13 @@ returns-4 c =
     let e1 = fd .before .before in
     let sh = e1 .before in
     let a = sh .before .before .before .before .args in
-    let m = meaning (a .h) (now (a .keys)) (now (a .times)) (now (a .values)) in
-    commit-turned-down (a .n) (a .t) (a .h) (now (a .keys)) (now (a .times)) (now (a .values)) (sym (sh .shaped .ensures .0) ∙ not-false _ (e1 .if1 .left)) _
+    let cs = columns (now (a .keys)) (now (a .times)) (now (a .values)) in
+    let m = meaning (a .h) cs in
+    commit-turned-down (a .n) (a .t) (a .h) cs (sym (sh .shaped .ensures .0) ∙ not-false _ (e1 .if1 .left)) _
     Conflict (c .refused4 .ensures)
     (say 11 (mapAnswer (roomOf (length (now (a .keys)))) (Commit (a .n) (a .t)) m) Absent
     (commit-conflict m (a .n) _ _ _ (place-found (a .h .slots) (a .n) _ (fd .find .ensures .0) _ (fo .found .given .1)) (roomOf (length (now (a .keys)))) (a .t) (e2 .if2 .left) _
-    (co .conflicts .ensures (now (a .values))) (t3 .if3 .taken)))
+    (co .conflicts .ensures cs) (t3 .if3 .taken)))
 
 room-requires : tie.Need-room-requires
 room-requires c κs = search needs
@@ -196,12 +199,13 @@ returns-5 c =
     let e1 = fd .before .before in
     let sh = e1 .before in
     let a = sh .before .before .before .before .args in
-    let m = meaning (a .h) (now (a .keys)) (now (a .times)) (now (a .values)) in
-    commit-turned-down (a .n) (a .t) (a .h) (now (a .keys)) (now (a .times)) (now (a .values)) (sym (sh .shaped .ensures .0) ∙ not-false _ (e1 .if1 .left)) _
+    let cs = columns (now (a .keys)) (now (a .times)) (now (a .values)) in
+    let m = meaning (a .h) cs in
+    commit-turned-down (a .n) (a .t) (a .h) cs (sym (sh .shaped .ensures .0) ∙ not-false _ (e1 .if1 .left)) _
     NoRoom (c .refused5 .ensures)
     (say 12 (mapAnswer (roomOf (length (now (a .keys)))) (Commit (a .n) (a .t)) m) Absent
     (commit-room m (a .n) _ _ _ (place-found (a .h .slots) (a .n) _ (fd .find .ensures .0) _ (fo .found .given .1)) (roomOf (length (now (a .keys)))) (a .t) (e2 .if2 .left) _
-    (co .conflicts .ensures (now (a .values))) (e3 .if3 .left) (a .h .used) _ (length-versions (a .h .used) (now (a .keys)) (now (a .times)) (now (a .values)))
+    (co .conflicts .ensures cs) (e3 .if3 .left) (a .h .used) _ (length-versions (a .h .used) cs)
     (cw .count-written .ensures) (rw (rm .room .ensures) at (t4 .if4 .taken))))
 
 stamp-requires : tie.Need-stamp-requires
@@ -215,10 +219,11 @@ stamp-requires c κs =
     let e1 = fd .before .before in
     let sh = e1 .before in
     let a = sh .before .before .before .before .args in
+    let cs = columns (now (a .keys)) (now (a .times)) (now (a .values)) in
     let w = sh .shaped .ensures .1 (not-false _ (e1 .if1 .left)) in (
       rowed-found (a .h .slots) (a .n) _ (fd .find .ensures .0) _ (fo .found .given .1) (w .formed),
       w .limit,
-      room-lent (a .h) (now (a .keys)) (now (a .times)) (now (a .values)) w _ (rw (rm .room .ensures, cw .count-written .ensures) at (e4 .if4 .left)),
+      room-lent (a .h) cs w _ (rw (rm .room .ensures, cw .count-written .ensures) at (e4 .if4 .left)),
     )
 
 closed-requires : tie.Need-closed-requires
@@ -253,14 +258,15 @@ returns-6 c =
     let e1 = fd .before .before in
     let sh = e1 .before in
     let a = sh .before .before .before .before .args in
-    let m = meaning (a .h) (now (a .keys)) (now (a .times)) (now (a .values)) in
-    commit-carried-out (a .n) (a .t) (a .h) (now (a .keys)) (now (a .times)) (now (a .values)) (sym (sh .shaped .ensures .0) ∙ not-false _ (e1 .if1 .left))
-    _ _ _ _
+    let cs = columns (now (a .keys)) (now (a .times)) (now (a .values)) in
+    let m = meaning (a .h) cs in
+    commit-carried-out (a .n) (a .t) (a .h) cs (sym (sh .shaped .ensures .0) ∙ not-false _ (e1 .if1 .left))
+    _ _
     (say 0 (mapAnswer (roomOf (length (now (a .keys)))) (Commit (a .n) (a .t)) m) Absent
     (commit-done m (a .n) _ _ _ (place-found (a .h .slots) (a .n) _ (fd .find .ensures .0) _ (fo .found .given .1)) (roomOf (length (now (a .keys)))) (a .t) (e2 .if2 .left) _
-    (co .conflicts .ensures (now (a .values))) (e3 .if3 .left) (a .h .used) _ (length-versions (a .h .used) (now (a .keys)) (now (a .times)) (now (a .values)))
+    (co .conflicts .ensures cs) (e3 .if3 .left) (a .h .used) _ (length-versions (a .h .used) cs)
     (cw .count-written .ensures) (rw (rm .room .ensures) at (e4 .if4 .left))))
-    (freed (a .n) (a .t) (a .h) (now (a .keys)) (now (a .times)) (now (a .values)) _ _ _ _ (fd .find .ensures .0) _ (fo .found .given .1) _ (sp .stamp .ensures)
+    (freed (a .n) (a .t) (a .h) cs _ _ (fd .find .ensures .0) _ (fo .found .given .1) _ (sp .stamp .ensures)
     _ (c .closed .ensures))
 
 pub commit-spec : {M : Type 1} → statement M

@@ -6,7 +6,7 @@ use Prim.Native.Nat.{ℕ, _+_, _-_, _≤_, _<_}
 use lib.ListN.{getD}
 use Rattle.slot.specs.Places.{rowsOf}
 use Rattle.versions.specs.declared.Version.{Version}
-use Rattle.versions.specs.Versions.{versionsOf, later}
+use Rattle.versions.specs.Versions.{Columns, keyed, versionsOf, later}
 use Rattle.map_store.specs.Meaning.{clash}
 use Rattle.map_commit.specs.RowLaws.{clash-here, clash-none, clash-among}
 use borrow.Author.Needs.{needs}
@@ -23,7 +23,7 @@ module _ (ks vs : List ℕ) (s : ℕ) (versions : List Version) (i : ℕ) (b : B
   miss t h = clash-none ks vs s versions i (sym e ∙ t) h
 
 abbrev Inv-loop : tie.InvT-loop
-Inv-loop s keys times used written rows from i₀ i = (i ≤ rows) × ((values : List ℕ) → clash (s .snapshot) (rowsOf (s .keys) (s .values) i) (versionsOf used keys times values) ≡ false)
+Inv-loop s keys times used written rows from i₀ i = (i ≤ rows) × ((others : Columns) → clash (s .snapshot) (rowsOf (s .keys) (s .values) i) (versionsOf used (keyed keys times others)) ≡ false)
 
 abbrev μ-loop : tie.MeasureT-loop
 μ-loop s keys times used written rows from i₀ i = rows - i
@@ -32,7 +32,7 @@ first-late-requires : tie.Need-first-late-requires Inv-loop μ-loop
 first-late-requires c κs = search needs
 
 loop-holds : tie.Need-loop-holds Inv-loop μ-loop
-loop-holds c = (omega arith, λ values. refl)
+loop-holds c = (omega arith, λ others. refl)
 
 mul-is-later : tie.Need-mul-is-later Inv-loop μ-loop
 mul-is-later c =
@@ -58,9 +58,9 @@ returns c =
     let lt = il .before in
     let lp = lt .before in
     let a = lp .before .before .before .before .before .args in
-    λ values.
-    hit (a .s .keys) (a .s .values) (a .s .snapshot) (versionsOf (a .used) (now (a .keys)) (now (a .times)) values) (lp .loop .i) _
-    (il .is-later .ensures values) (a .s .count) (lt .loop-test .taken) (c .if1 .taken)
+    λ others.
+    hit (a .s .keys) (a .s .values) (a .s .snapshot) (versionsOf (a .used) (keyed (now (a .keys)) (now (a .times)) others)) (lp .loop .i) _
+    (il .is-later .ensures others) (a .s .count) (lt .loop-test .taken) (c .if1 .taken)
 
 add-i : tie.Need-add-i Inv-loop μ-loop
 add-i c =
@@ -78,18 +78,18 @@ loop-again c =
     let lp = lt .before in
     let a = lp .before .before .before .before .before .args in (
       omega arith,
-      λ values.
-          miss (a .s .keys) (a .s .values) (a .s .snapshot) (versionsOf (a .used) (now (a .keys)) (now (a .times)) values) (lp .loop .i) _
-          (il .is-later .ensures values) (c .if1 .left) (lp .loop .inv .1 values),
+      λ others.
+          miss (a .s .keys) (a .s .values) (a .s .snapshot) (versionsOf (a .used) (keyed (now (a .keys)) (now (a .times)) others)) (lp .loop .i) _
+          (il .is-later .ensures others) (c .if1 .left) (lp .loop .inv .1 others),
     )
 
 returns-2 : tie.Need-returns-2 Inv-loop μ-loop
 returns-2 c =
     let lp = c .before in
     let a = lp .before .before .before .before .before .args in
-    λ values.
+    λ others.
     let e : lp .loop .i ≡ a .s .count = omega arith in
-    sym (rw e at (lp .loop .inv .1 values))
+    sym (rw e at (lp .loop .inv .1 others))
 
 pub conflicts-spec : {M : Type 1} → statement M
 conflicts-spec =

@@ -5,10 +5,12 @@ use mathlib.Core.List.{List}
 use mathlib.Core.Logic.{⊎-elim}
 use Prim.Native.Nat.{ℕ, _+_, _-_, _≤_, _<_}
 use lib.ListN.{length, getD}
-use Rattle.slot.specs.Places.{rowsOf}
-use Rattle.versions.specs.Columns.{Lent, Appended}
+use Rattle.slot.specs.Places.{Note, rowsOf}
+use Rattle.versions.specs.Versions.{Columns, columns}
+use Rattle.versions.specs.Columns.{Lent, Long, withVersion}
+use Rattle.versions.specs.Laws.{lent-fewer, lent-long}
 use Rattle.map_store.specs.Meaning.{firsts}
-use Rattle.map_store.specs.MeaningLaws.{length-written}
+use Rattle.map_store.specs.MeaningLaws.{written-long}
 use Rattle.map_commit.specs.Commit.{Stamped}
 use Rattle.map_commit.specs.RowLaws.{isFirst, first-more, first-same, firsts-among, stamped-more}
 use borrow.Author.Needs.{needs}
@@ -17,40 +19,40 @@ use denote.Ref.{now}
 use Rattle.map_commit.proofs.stamp.Statement.{statement}
 use Rattle.map_commit.proofs.stamp.Tie as tie
 
-module _ (sk sv : List ℕ) (t used : ℕ) (ks ts vs : List ℕ) (i : ℕ) (ks₁ ts₁ vs₁ : List ℕ) (at : ℕ)
-    (w : Stamped t used (firsts (rowsOf sk sv i)) ks ts vs ks₁ ts₁ vs₁ at) (b : Bool) (e : b ≡ isFirst sk sv i) where
+-- what was written leaves the lengths
+long : (t used : ℕ) (rows : List Note) (cs cs' : Columns) (r : ℕ) → Stamped t used rows cs cs' r → Long cs cs'
+long t used rows cs cs' r w = rw (w .cells) (written-long used t rows cs)
+
+module _ (sk sv : List ℕ) (t used : ℕ) (cs : Columns) (i : ℕ) (cs₁ : Columns) (at : ℕ)
+    (w : Stamped t used (firsts (rowsOf sk sv i)) cs cs₁ at) (b : Bool) (e : b ≡ isFirst sk sv i) where
   -- a row that counts has a lent row
-  room : (n : ℕ) → i < n → b ≡ true → Lent (used + length (firsts (rowsOf sk sv n))) ks ts vs → Lent (at + 1) ks₁ ts₁ vs₁
+  room : (n : ℕ) → i < n → b ≡ true → Lent (used + length (firsts (rowsOf sk sv n))) cs → Lent (at + 1) cs₁
   room n l f p =
       let m : length (firsts (rowsOf sk sv (i + 1))) ≤ length (firsts (rowsOf sk sv n)) = firsts-among sk sv (i + 1) n (omega arith) in
       let z = first-more sk sv i (sym e ∙ f) in
       let y : length (firsts (rowsOf sk sv (i + 1))) ≡ length (firsts (rowsOf sk sv i)) + 1 = rw z (omega arith) in
-      record {
-        keys = rw (w .keys, length-written used (λ r. r .key) (firsts (rowsOf sk sv i)) ks) (omega (arith, w .count, p .keys));
-        times = rw (w .times, length-written used (λ r. t) (firsts (rowsOf sk sv i)) ts) (omega (arith, w .count, p .times));
-        values = rw (w .values, length-written used (λ r. r .value) (firsts (rowsOf sk sv i)) vs) (omega (arith, w .count, p .values));
-      }
+      lent-long (lent-fewer p (omega (arith, w .count))) (long t used (firsts (rowsOf sk sv i)) cs cs₁ at w)
 
-  more : b ≡ true → (ks₂ ts₂ vs₂ : List ℕ) → Appended at (getD sk i 0) t (getD sv i 0) ks₁ ts₁ vs₁ ks₂ ts₂ vs₂
-      → Stamped t used (firsts (rowsOf sk sv (i + 1))) ks ts vs ks₂ ts₂ vs₂ (at + 1)
-  more f ks₂ ts₂ vs₂ p =
+  more : b ≡ true → (cs₂ : Columns) → cs₂ ≡ withVersion at (record { key = getD sk i 0; time = t; value = getD sv i 0 }) cs₁
+      → Stamped t used (firsts (rowsOf sk sv (i + 1))) cs cs₂ (at + 1)
+  more f cs₂ p =
       rw (first-more sk sv i (sym e ∙ f))
-      (stamped-more t used (firsts (rowsOf sk sv i)) (record { key = getD sk i 0; value = getD sv i 0 }) ks ts vs ks₁ ts₁ vs₁ ks₂ ts₂ vs₂ at w p)
+      (stamped-more t used (firsts (rowsOf sk sv i)) (record { key = getD sk i 0; value = getD sv i 0 }) cs cs₁ cs₂ at w p)
 
-  same : b ≡ false → Stamped t used (firsts (rowsOf sk sv (i + 1))) ks ts vs ks₁ ts₁ vs₁ at
+  same : b ≡ false → Stamped t used (firsts (rowsOf sk sv (i + 1))) cs cs₁ at
   same f = rw (first-same sk sv i (sym e ∙ f)) w
 
 abbrev Inv-loop : tie.InvT-loop
 Inv-loop s keys₀ times₀ values₀ used t written running rows at₀ i₀ keys times values at i =
     (i ≤ rows)
     × (at ≤ used + i)
-    × Stamped t used (firsts (rowsOf (s .keys) (s .values) i)) keys₀ times₀ values₀ keys times values at
+    × Stamped t used (firsts (rowsOf (s .keys) (s .values) i)) (columns keys₀ times₀ values₀) (columns keys times values) at
 
 abbrev μ-loop : tie.MeasureT-loop
 μ-loop s keys₀ times₀ values₀ used t written running rows at₀ i₀ keys times values at i = rows - i
 
 loop-holds : tie.Need-loop-holds Inv-loop μ-loop
-loop-holds c = (omega arith, omega arith, record { count = omega arith; keys = refl; times = refl; values = refl })
+loop-holds c = (omega arith, omega arith, record { count = omega arith; cells = refl })
 
 is-first-requires : tie.Need-is-first-requires Inv-loop μ-loop
 is-first-requires c κs =
@@ -89,7 +91,8 @@ append-requires c κs =
     let lp = lt .before in
     let st = lp .before .before .before .before .before .before in
     let a = st .args in
-    room (a .s .keys) (a .s .values) (a .t) (a .used) (now (a .keys)) (now (a .times)) (now (a .values)) (lp .loop .i) _ _ _ _ (lp .loop .inv .2)
+    let cs = columns (now (a .keys)) (now (a .times)) (now (a .values)) in
+    room (a .s .keys) (a .s .values) (a .t) (a .used) cs (lp .loop .i) _ _ (lp .loop .inv .2)
     _ (fi .is-first .ensures) (a .s .count) (lt .loop-test .taken) (th .if1 .taken) (st .pre .2)
 
 add-at : tie.Need-add-at Inv-loop μ-loop
@@ -113,41 +116,33 @@ loop-again c =
     let fi = c .before in
     let lp = fi .before .before in
     let a = lp .before .before .before .before .before .before .args in
+    let cs = columns (now (a .keys)) (now (a .times)) (now (a .values)) in
     let l = lp .loop in
     ⊎-elim
     (λ w. (
       omega arith,
       omega (arith, l .inv .1, w .14),
       rw (w .11, w .12, w .13, w .14)
-          (more (a .s .keys) (a .s .values) (a .t) (a .used) (now (a .keys)) (now (a .times)) (now (a .values)) (l .i) _ _ _ _ (l .inv .2)
-          _ (fi .is-first .ensures) (w .0 .taken) _ _ _ (w .4 .ensures)),
+          (more (a .s .keys) (a .s .values) (a .t) (a .used) cs (l .i) _ _ (l .inv .2)
+          _ (fi .is-first .ensures) (w .0 .taken) _ (w .4 .ensures)),
     ))
     (λ w. (
       omega arith,
       omega (arith, l .inv .1, w .4),
       rw (w .1, w .2, w .3, w .4)
-          (same (a .s .keys) (a .s .values) (a .t) (a .used) (now (a .keys)) (now (a .times)) (now (a .values)) (l .i) _ _ _ _ (l .inv .2)
+          (same (a .s .keys) (a .s .values) (a .t) (a .used) cs (l .i) _ _ (l .inv .2)
           _ (fi .is-first .ensures) (w .0 .left)),
     ))
     (c .if1 .came)
 
 same-length : tie.Need-same-length Inv-loop μ-loop
-same-length c =
-    let lp = c .before in
-    let a = lp .before .before .before .before .before .before .args in
-    rw (lp .loop .inv .2 .keys) (length-written (a .used) (λ r. r .key) (firsts (rowsOf (a .s .keys) (a .s .values) (lp .loop .i))) (now (a .keys)))
+same-length c = long _ _ _ _ _ _ (c .before .loop .inv .2) .keys
 
 same-length-2 : tie.Need-same-length-2 Inv-loop μ-loop
-same-length-2 c =
-    let lp = c .before in
-    let a = lp .before .before .before .before .before .before .args in
-    rw (lp .loop .inv .2 .times) (length-written (a .used) (λ r. a .t) (firsts (rowsOf (a .s .keys) (a .s .values) (lp .loop .i))) (now (a .times)))
+same-length-2 c = long _ _ _ _ _ _ (c .before .loop .inv .2) .times
 
 same-length-3 : tie.Need-same-length-3 Inv-loop μ-loop
-same-length-3 c =
-    let lp = c .before in
-    let a = lp .before .before .before .before .before .before .args in
-    rw (lp .loop .inv .2 .values) (length-written (a .used) (λ r. r .value) (firsts (rowsOf (a .s .keys) (a .s .values) (lp .loop .i))) (now (a .values)))
+same-length-3 c = long _ _ _ _ _ _ (c .before .loop .inv .2) .values
 
 returns : tie.Need-returns Inv-loop μ-loop
 returns c =

@@ -7,7 +7,7 @@ use denote.Ref.{now}
 use Rattle.rules.specs.declared.Value.the-variants.{Present}
 use Rattle.answer.specs.declared.Refusal.the-variants.{TooOld, Future}
 use Rattle.answer.specs.Reply.{ofListed}
-use Rattle.versions.specs.Versions.{listAt}
+use Rattle.versions.specs.Versions.{columns, listAt}
 use Rattle.map_store.specs.Meaning.{listAnswer}
 use Rattle.map_store.specs.Shape.{meaning}
 use Rattle.map_store.specs.Laws.{lent}
@@ -19,7 +19,8 @@ use Rattle.map_list.proofs.list.Tie as tie
 returns : tie.Need-returns
 returns c =
     let a = c .before .before .before .before .before .before .args in
-    list-unpaired (a .t) (a .h) (now (a .keys)) (now (a .times)) (now (a .values)) (now (a .out-keys)) (now (a .out-values)) (ne-eqb _ _ (c .if1 .taken))
+    let cs = columns (now (a .keys)) (now (a .times)) (now (a .values)) in
+    list-unpaired (a .t) (a .h) cs (now (a .out-keys)) (now (a .out-values)) (ne-eqb _ _ (c .if1 .taken))
 
 shaped-requires : tie.Need-shaped-requires
 shaped-requires c κs = search needs
@@ -29,7 +30,8 @@ returns-2 c =
     let sh = c .before in
     let e1 = sh .before in
     let a = e1 .before .before .before .before .before .before .args in
-    list-bad-shape (a .t) (a .h) (now (a .keys)) (now (a .times)) (now (a .values)) (now (a .out-keys)) (now (a .out-values)) (eq-eqb _ _ (e1 .if1 .left))
+    let cs = columns (now (a .keys)) (now (a .times)) (now (a .values)) in
+    list-bad-shape (a .t) (a .h) cs (now (a .out-keys)) (now (a .out-values)) (eq-eqb _ _ (e1 .if1 .left))
     (sym (sh .shaped .ensures .0) ∙ not-true _ (c .if2 .taken))
 
 returns-3 : tie.Need-returns-3
@@ -38,8 +40,9 @@ returns-3 c =
     let sh = e2 .before in
     let e1 = sh .before in
     let a = e1 .before .before .before .before .before .before .args in
-    let m = meaning (a .h) (now (a .keys)) (now (a .times)) (now (a .values)) in
-    list-untimely (a .t) (a .h) (now (a .keys)) (now (a .times)) (now (a .values)) (now (a .out-keys)) (now (a .out-values)) (eq-eqb _ _ (e1 .if1 .left))
+    let cs = columns (now (a .keys)) (now (a .times)) (now (a .values)) in
+    let m = meaning (a .h) cs in
+    list-untimely (a .t) (a .h) cs (now (a .out-keys)) (now (a .out-values)) (eq-eqb _ _ (e1 .if1 .left))
     (sym (sh .shaped .ensures .0) ∙ not-false _ (e2 .if2 .left)) TooOld
     (say 4 (listAnswer (length (now (a .out-keys))) (a .t) m) (Present (length (listAt (m .versions) (a .t))))
     (list-old m (a .t) (length (now (a .out-keys))) (c .if3 .taken)))
@@ -51,8 +54,9 @@ returns-4 c =
     let sh = e2 .before in
     let e1 = sh .before in
     let a = e1 .before .before .before .before .before .before .args in
-    let m = meaning (a .h) (now (a .keys)) (now (a .times)) (now (a .values)) in
-    list-untimely (a .t) (a .h) (now (a .keys)) (now (a .times)) (now (a .values)) (now (a .out-keys)) (now (a .out-values)) (eq-eqb _ _ (e1 .if1 .left))
+    let cs = columns (now (a .keys)) (now (a .times)) (now (a .values)) in
+    let m = meaning (a .h) cs in
+    list-untimely (a .t) (a .h) cs (now (a .out-keys)) (now (a .out-values)) (eq-eqb _ _ (e1 .if1 .left))
     (sym (sh .shaped .ensures .0) ∙ not-false _ (e2 .if2 .left)) Future
     (say 5 (listAnswer (length (now (a .out-keys))) (a .t) m) (Present (length (listAt (m .versions) (a .t))))
     (list-future m (a .t) (length (now (a .out-keys))) (e3 .if3 .left) (c .if4 .taken)))
@@ -64,8 +68,9 @@ write-any-requires c κs =
     let sh = e2 .before in
     let e1 = sh .before in
     let a = e1 .before .before .before .before .before .before .args in
+    let cs = columns (now (a .keys)) (now (a .times)) (now (a .values)) in
     let s = sh .shaped .ensures .1 (not-false _ (e2 .if2 .left)) in
-    (lent (a .h) (now (a .keys)) (now (a .times)) (now (a .values)) s, s .limit, e1 .if1 .left)
+    (lent (a .h) cs s, s .limit, e1 .if1 .left)
 
 same-length : tie.Need-same-length
 same-length c = search needs
@@ -82,7 +87,8 @@ returns-5 c =
     let sh = e2 .before in
     let e1 = sh .before in
     let a = e1 .before .before .before .before .before .before .args in
-    list-timed (a .t) (a .h) (now (a .keys)) (now (a .times)) (now (a .values)) (now (a .out-keys)) (now (a .out-values)) (eq-eqb _ _ (e1 .if1 .left))
+    let cs = columns (now (a .keys)) (now (a .times)) (now (a .values)) in
+    list-timed (a .t) (a .h) cs (now (a .out-keys)) (now (a .out-values)) (eq-eqb _ _ (e1 .if1 .left))
     (sym (sh .shaped .ensures .0) ∙ not-false _ (e2 .if2 .left)) (e3 .if3 .left) (e4 .if4 .left) (ofListed (w .write-any .result)) _ _ (w .write-any .ensures)
 
 pub list-spec : {M : Type 1} → statement M

@@ -14,7 +14,7 @@ use Rattle.answer.specs.declared.Refusal.the-variants.{NoRoom}
 use Rattle.answer.specs.Reply.{refused, accepted}
 use Rattle.table.specs.Table.{Next}
 use Rattle.table.specs.Laws.{next-within, next-copied}
-use Rattle.versions.specs.Versions.{versionsOf, listAt}
+use Rattle.versions.specs.Versions.{columns, versionsOf, listAt}
 use Rattle.map_store.specs.Tests.{say, say-value}
 use Rattle.map_list.specs.List.{ListedIn}
 use Rattle.map_list.proofs.write.Statement.{statement}
@@ -52,7 +52,8 @@ returns : tie.Need-returns
 returns c =
     let g = c .before .before .before .before .before in
     let a = g .before .before .before .before .before .before .before .before .before .before .args in
-    no-room (listAt (versionsOf (a .used) (now (a .keys)) (now (a .times)) (now (a .values))) (a .t)) (now (a .out-keys)) (now (a .out-values))
+    let cs = columns (now (a .keys)) (now (a .times)) (now (a .values)) in
+    no-room (listAt (versionsOf (a .used) cs) (a .t)) (now (a .out-keys)) (now (a .out-values))
     (g .listing .ensures) (c .if1 .taken)
 
 copy-requires : tie.Need-copy-requires
@@ -85,7 +86,8 @@ returns-2 c =
     let e = k .before .before .before in
     let g = e .before .before .before .before .before in
     let a = g .before .before .before .before .before .before .before .before .before .before .args in
-    copied (listAt (versionsOf (a .used) (now (a .keys)) (now (a .times)) (now (a .values))) (a .t)) (now (a .out-keys)) (now (a .out-values))
+    let cs = columns (now (a .keys)) (now (a .times)) (now (a .values)) in
+    copied (listAt (versionsOf (a .used) cs) (a .t)) (now (a .out-keys)) (now (a .out-values))
     (g .listing .ensures) (e .if1 .left) (k .copy .ensures) (v .copy2 .ensures)
 
 pub write-spec : {M : Type 1} → statement M

@@ -13,7 +13,7 @@ use Rattle.slot.specs.Formed.{Rowed}
 use Rattle.slot.specs.Places.{slotRows}
 use Rattle.slot.specs.RowLaws.{value-row}
 use Rattle.versions.specs.declared.Version.{Version}
-use Rattle.versions.specs.Versions.{versionsOf, valueAt}
+use Rattle.versions.specs.Versions.{columns, versionsOf, valueAt}
 use Rattle.map_store.specs.Meaning.{current}
 use borrow.Author.Needs.{needs}
 use native.Mathlib.Omega.{arith}
@@ -58,7 +58,8 @@ returns c =
     let fd = at .before .before in
     let st = fd .before .before .before .before .before in
     let a = st .args in
-    own (a .s) (st .pre .0) (a .k) (versionsOf (a .used) (now (a .keys)) (now (a .times)) (now (a .values))) _ (fd .find .ensures .0) _ (at .i .given .1)
+    let cs = columns (now (a .keys)) (now (a .times)) (now (a .values)) in
+    own (a .s) (st .pre .0) (a .k) (versionsOf (a .used) cs) _ (fd .find .ensures .0) _ (at .i .given .1)
 
 returns-2 : tie.Need-returns-2
 returns-2 c =
@@ -66,7 +67,8 @@ returns-2 c =
     let fd = at .before .before in
     let st = fd .before .before .before .before .before in
     let a = st .args in
-    seen (a .s) (st .pre .0) (a .k) (versionsOf (a .used) (now (a .keys)) (now (a .times)) (now (a .values))) _ (fd .find .ensures .0) (at .enum-told .given .1) _ (c .value-at .ensures)
+    let cs = columns (now (a .keys)) (now (a .times)) (now (a .values)) in
+    seen (a .s) (st .pre .0) (a .k) (versionsOf (a .used) cs) _ (fd .find .ensures .0) (at .enum-told .given .1) _ (c .value-at .ensures)
 
 pub current-value-spec : {M : Type 1} → statement M
 current-value-spec =

@@ -11,6 +11,7 @@ use Rattle.column.specs.declared.Found.{Found}
 use Rattle.column.specs.declared.Found.the-variants.{At}
 use Rattle.slot.specs.declared.Slots.{Slots}
 use Rattle.slot.specs.Slots.{slotOf, closedIn}
+use Rattle.versions.specs.Versions.{columns}
 use Rattle.map_store.specs.declared.MapHead.{MapHead}
 use Rattle.map_store.specs.Meaning.{mapRefusal}
 use Rattle.map_store.specs.Shape.{meaning}
@@ -36,8 +37,9 @@ returns c =
     let t1 = c .before in
     let sh = t1 .before in
     let a = sh .before .before .before .before .args in
+    let cs = columns (now (a .keys)) (now (a .times)) (now (a .values)) in
     rw (c .refused .ensures .0, c .refused .ensures .1)
-    (bad-shape (Abort (a .n)) (a .h) (now (a .keys)) (now (a .times)) (now (a .values)) (sym (sh .shaped .ensures .0) ∙ not-true _ (t1 .if1 .taken)))
+    (bad-shape (Abort (a .n)) (a .h) cs (sym (sh .shaped .ensures .0) ∙ not-true _ (t1 .if1 .taken)))
 
 find-requires : tie.Need-find-requires
 find-requires c κs = search needs
@@ -68,8 +70,9 @@ returns-2 c =
     let e1 = fd .before .before in
     let sh = e1 .before in
     let a = sh .before .before .before .before .args in
-    let m = meaning (a .h) (now (a .keys)) (now (a .times)) (now (a .values)) in
-    carried-out (Abort (a .n)) (a .h) (now (a .keys)) (now (a .times)) (now (a .values)) (sym (sh .shaped .ensures .0) ∙ not-false _ (e1 .if1 .left)) _ _
+    let cs = columns (now (a .keys)) (now (a .times)) (now (a .values)) in
+    let m = meaning (a .h) cs in
+    carried-out (Abort (a .n)) (a .h) cs (sym (sh .shaped .ensures .0) ∙ not-false _ (e1 .if1 .left)) _ _
     (c .accepted .ensures)
     (say 0 (mapRefusal (Abort (a .n)) m) Absent
     (abort-done m (a .n) _ _ _ (place-found (a .h .slots) (a .n) _ (fd .find .ensures .0) _ (at .i .given .1))))
@@ -82,8 +85,9 @@ returns-3 c =
     let e1 = fd .before .before in
     let sh = e1 .before in
     let a = sh .before .before .before .before .args in
-    let m = meaning (a .h) (now (a .keys)) (now (a .times)) (now (a .values)) in
-    turned-down (Abort (a .n)) (a .h) (now (a .keys)) (now (a .times)) (now (a .values)) (sym (sh .shaped .ensures .0) ∙ not-false _ (e1 .if1 .left)) _
+    let cs = columns (now (a .keys)) (now (a .times)) (now (a .values)) in
+    let m = meaning (a .h) cs in
+    turned-down (Abort (a .n)) (a .h) cs (sym (sh .shaped .ensures .0) ∙ not-false _ (e1 .if1 .left)) _
     UnknownTransaction (c .refused2 .ensures)
     (say 2 (mapRefusal (Abort (a .n)) m) Absent
     (abort-unknown m (a .n) (place-none (a .h .slots) (a .n) _ (fd .find .ensures .0) (et .enum-told .given .1))))

@@ -3,6 +3,7 @@ use mathlib.Core.Path.{sym, _∙_}
 use Rattle.rules.specs.declared.Value.the-variants.{Present}
 use Rattle.rules.specs.Calls.{Begin}
 use Rattle.slot.specs.PlaceLaws.{occupied-places}
+use Rattle.versions.specs.Versions.{columns}
 use Rattle.map_store.specs.Meaning.{mapRefusal}
 use Rattle.map_store.specs.Shape.{meaning}
 use Rattle.map_store.specs.Tests.{say, time-old, time-future, begin-many, begin-numbers, begin-begun}
@@ -15,7 +16,8 @@ returns : tie.Need-returns
 returns c =
     let st = c .before .before .before .before .before in
     let a = st .args in
-    let m = meaning (a .h) (now (a .keys)) (now (a .times)) (now (a .values)) in
+    let cs = columns (now (a .keys)) (now (a .times)) (now (a .values)) in
+    let m = meaning (a .h) cs in
     say 4 (mapRefusal (Begin (a .t)) m) (Present (a .h .next))
     (time-old m (a .t) _ (c .if1 .taken))
 
@@ -24,7 +26,8 @@ returns-2 c =
     let e1 = c .before .before in
     let st = e1 .before .before .before .before .before in
     let a = st .args in
-    let m = meaning (a .h) (now (a .keys)) (now (a .times)) (now (a .values)) in
+    let cs = columns (now (a .keys)) (now (a .times)) (now (a .values)) in
+    let m = meaning (a .h) cs in
     say 5 (mapRefusal (Begin (a .t)) m) (Present (a .h .next))
     (time-future m (a .t) _ (e1 .if1 .left) (c .if2 .taken))
 
@@ -41,7 +44,8 @@ returns-3 c =
     let e1 = e2 .before .before in
     let st = e1 .before .before .before .before .before in
     let a = st .args in
-    let m = meaning (a .h) (now (a .keys)) (now (a .times)) (now (a .values)) in
+    let cs = columns (now (a .keys)) (now (a .times)) (now (a .values)) in
+    let m = meaning (a .h) cs in
     say 6 (mapRefusal (Begin (a .t)) m) (Present (a .h .next))
     (begin-many m (a .t) (e1 .if1 .left) (e2 .if2 .left) _ (ru .running .ensures ∙ sym (occupied-places (a .h .slots) (st .pre .formed .byte))) (c .if3 .taken))
 
@@ -53,7 +57,8 @@ returns-4 c =
     let e1 = e2 .before .before in
     let st = e1 .before .before .before .before .before in
     let a = st .args in
-    let m = meaning (a .h) (now (a .keys)) (now (a .times)) (now (a .values)) in
+    let cs = columns (now (a .keys)) (now (a .times)) (now (a .values)) in
+    let m = meaning (a .h) cs in
     say 7 (mapRefusal (Begin (a .t)) m) (Present (a .h .next))
     (begin-numbers m (a .t) (e1 .if1 .left) (e2 .if2 .left) _ (ru .running .ensures ∙ sym (occupied-places (a .h .slots) (st .pre .formed .byte))) (e3 .if3 .left) (c .if4 .taken))
 
@@ -65,7 +70,8 @@ returns-5 c =
     let e1 = e2 .before .before in
     let st = e1 .before .before .before .before .before in
     let a = st .args in
-    let m = meaning (a .h) (now (a .keys)) (now (a .times)) (now (a .values)) in
+    let cs = columns (now (a .keys)) (now (a .times)) (now (a .values)) in
+    let m = meaning (a .h) cs in
     say 0 (mapRefusal (Begin (a .t)) m) (Present (a .h .next))
     (begin-begun m (a .t) (e1 .if1 .left) (e2 .if2 .left) _ (ru .running .ensures ∙ sym (occupied-places (a .h .slots) (st .pre .formed .byte))) (e3 .if3 .left) (c .if4 .left))
 

@@ -1,7 +1,7 @@
 -- `map_store::lookup::lookup` meets its contract: what was decided is the answer, or the shape is bad. Assumes nothing.
 use mathlib.Core.Path.{sym, _∙_}
 use borrow.Author.Tests.{not-true, not-false}
-use Rattle.versions.specs.Versions.{versionsOf, valueAt}
+use Rattle.versions.specs.Versions.{columns, versionsOf, valueAt}
 use Rattle.map_store.specs.Meaning.{lookupRefusal}
 use Rattle.map_store.specs.Shape.{meaning}
 use Rattle.map_store.specs.Contracts.{shapedNumber}
@@ -19,8 +19,9 @@ returns : tie.Need-returns
 returns c =
     let sh = c .before in
     let a = sh .before .before .before .before .args in
-    say 1 (shapedNumber (a .h) (now (a .keys)) (now (a .times)) (now (a .values)) (lookupRefusal (a .k) (a .t))) (valueAt (a .k) (a .t) (versionsOf (a .h .used) (now (a .keys)) (now (a .times)) (now (a .values))))
-    (number-bad (a .h) (now (a .keys)) (now (a .times)) (now (a .values)) (lookupRefusal (a .k) (a .t)) (sym (sh .shaped .ensures .0) ∙ not-true _ (c .if1 .taken)))
+    let cs = columns (now (a .keys)) (now (a .times)) (now (a .values)) in
+    say 1 (shapedNumber (a .h) cs (lookupRefusal (a .k) (a .t))) (valueAt (a .k) (a .t) (versionsOf (a .h .used) cs))
+    (number-bad (a .h) cs (lookupRefusal (a .k) (a .t)) (sym (sh .shaped .ensures .0) ∙ not-true _ (c .if1 .taken)))
 
 decide-requires : tie.Need-decide-requires
 decide-requires c κs =
@@ -33,8 +34,9 @@ returns-2 c =
     let e1 = c .before in
     let sh = e1 .before in
     let a = sh .before .before .before .before .args in
-    replied (shapedNumber (a .h) (now (a .keys)) (now (a .times)) (now (a .values)) (lookupRefusal (a .k) (a .t))) (lookupRefusal (a .k) (a .t) (meaning (a .h) (now (a .keys)) (now (a .times)) (now (a .values)))) (valueAt (a .k) (a .t) (versionsOf (a .h .used) (now (a .keys)) (now (a .times)) (now (a .values))))
-    (number-good (a .h) (now (a .keys)) (now (a .times)) (now (a .values)) (lookupRefusal (a .k) (a .t)) (sym (sh .shaped .ensures .0) ∙ not-false _ (e1 .if1 .left))) _ (c .decide .ensures)
+    let cs = columns (now (a .keys)) (now (a .times)) (now (a .values)) in
+    replied (shapedNumber (a .h) cs (lookupRefusal (a .k) (a .t))) (lookupRefusal (a .k) (a .t) (meaning (a .h) cs)) (valueAt (a .k) (a .t) (versionsOf (a .h .used) cs))
+    (number-good (a .h) cs (lookupRefusal (a .k) (a .t)) (sym (sh .shaped .ensures .0) ∙ not-false _ (e1 .if1 .left))) _ (c .decide .ensures)
 
 pub lookup-spec : {M : Type 1} → statement M
 lookup-spec = tie.close (tie.spec shaped-requires returns decide-requires returns-2)

@@ -4,6 +4,7 @@ use Prim.Native.Nat.{ℕ}
 use Rattle.rules.specs.declared.Value.{Value}
 use Rattle.slot.specs.declared.Slot.{Slot}
 use Rattle.slot.specs.Places.{takenBy, slotRows, placeOf}
+use Rattle.versions.specs.Versions.{columns}
 use Rattle.map_store.specs.Meaning.{MapStore, current, readRefusal, readIn}
 use Rattle.map_store.specs.Shape.{meaning}
 use Rattle.map_store.specs.Laws.{place-none, place-found, rowed-found, lent}
@@ -29,7 +30,8 @@ returns c =
     let fd = at .before .before in
     let st = fd .before .before .before .before .before in
     let a = st .args in
-    let m = meaning (a .h) (now (a .keys)) (now (a .times)) (now (a .values)) in
+    let cs = columns (now (a .keys)) (now (a .times)) (now (a .values)) in
+    let m = meaning (a .h) cs in
     say 3 (readRefusal (a .n) (a .k) m) (readIn (a .n) (a .k) m)
     (read-key m (a .n) _ _ _ (place-found (a .h .slots) (a .n) _ (fd .find .ensures .0) _ (at .i .given .1)) (a .k) (c .if1 .taken))
 
@@ -46,7 +48,8 @@ current-value-requires c κs =
     let fd = at .before .before in
     let st = fd .before .before .before .before .before in
     let a = st .args in
-    (rw (sl .at .ensures) (rowed-found (a .h .slots) (a .n) _ (fd .find .ensures .0) _ (at .i .given .1) (st .pre .formed)), lent (a .h) (now (a .keys)) (now (a .times)) (now (a .values)) (st .pre))
+    let cs = columns (now (a .keys)) (now (a .times)) (now (a .values)) in
+    (rw (sl .at .ensures) (rowed-found (a .h .slots) (a .n) _ (fd .find .ensures .0) _ (at .i .given .1) (st .pre .formed)), lent (a .h) cs (st .pre))
 
 enum-told : tie.Need-enum-told
 enum-told c = search needs
@@ -58,7 +61,8 @@ returns-2 c =
     let at = e1 .before .before in
     let fd = at .before .before in
     let a = fd .before .before .before .before .before .args in
-    let m = meaning (a .h) (now (a .keys)) (now (a .times)) (now (a .values)) in
+    let cs = columns (now (a .keys)) (now (a .times)) (now (a .values)) in
+    let m = meaning (a .h) cs in
     say-value (readRefusal (a .n) (a .k) m) _ (readIn (a .n) (a .k) m) (reads m (a .n) (a .k) (sl .at .result) (place-found (a .h .slots) (a .n) _ (fd .find .ensures .0) _ (at .i .given .1) ∙ ap takenBy (sym (sl .at .ensures))) _ (c .current-value .ensures))
     (read-done m (a .n) _ _ _ (place-found (a .h .slots) (a .n) _ (fd .find .ensures .0) _ (at .i .given .1)) (a .k) (e1 .if1 .left))
 
@@ -67,7 +71,8 @@ returns-3 c =
     let fd = c .before .before in
     let st = fd .before .before .before .before .before in
     let a = st .args in
-    let m = meaning (a .h) (now (a .keys)) (now (a .times)) (now (a .values)) in
+    let cs = columns (now (a .keys)) (now (a .times)) (now (a .values)) in
+    let m = meaning (a .h) cs in
     say 2 (readRefusal (a .n) (a .k) m) (readIn (a .n) (a .k) m)
     (read-unknown m (a .n) (place-none (a .h .slots) (a .n) _ (fd .find .ensures .0) (c .enum-told .given .1)) (a .k))
 

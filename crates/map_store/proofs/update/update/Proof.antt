@@ -19,7 +19,7 @@ use Rattle.slot.specs.Slot.{noted}
 use Rattle.slot.specs.Slots.{slotAt, slotOf}
 use Rattle.slot.specs.Places.{slotRows}
 use Rattle.versions.specs.declared.Version.{Version}
-use Rattle.versions.specs.Versions.{versionsOf}
+use Rattle.versions.specs.Versions.{columns}
 use Rattle.map_store.specs.declared.MapHead.{MapHead}
 use Rattle.map_store.specs.Meaning.{current, mapRefusal}
 use Rattle.map_store.specs.Shape.{meaning}
@@ -47,8 +47,9 @@ returns c =
     let t1 = c .before in
     let sh = t1 .before in
     let a = sh .before .before .before .before .args in
+    let cs = columns (now (a .keys)) (now (a .times)) (now (a .values)) in
     rw (c .refused .ensures .0, c .refused .ensures .1)
-    (bad-shape (Update (a .n) (a .k) (a .e)) (a .h) (now (a .keys)) (now (a .times)) (now (a .values))
+    (bad-shape (Update (a .n) (a .k) (a .e)) (a .h) cs
     (sym (sh .shaped .ensures .0) ∙ not-true _ (t1 .if1 .taken)))
 
 find-requires : tie.Need-find-requires
@@ -70,8 +71,9 @@ returns-2 c =
     let e1 = fd .before .before in
     let sh = e1 .before in
     let a = sh .before .before .before .before .args in
-    let m = meaning (a .h) (now (a .keys)) (now (a .times)) (now (a .values)) in
-    turned-down (Update (a .n) (a .k) (a .e)) (a .h) (now (a .keys)) (now (a .times)) (now (a .values))
+    let cs = columns (now (a .keys)) (now (a .times)) (now (a .values)) in
+    let m = meaning (a .h) cs in
+    turned-down (Update (a .n) (a .k) (a .e)) (a .h) cs
     (sym (sh .shaped .ensures .0) ∙ not-false _ (e1 .if1 .left)) _ UnknownTransaction (c .refused2 .ensures)
     (say 2 (mapRefusal (Update (a .n) (a .k) (a .e)) m) Absent
     (update-unknown m (a .n) (place-none (a .h .slots) (a .n) _ (fd .find .ensures .0) (et .enum-told .given .1)) (a .k) (a .e)))
@@ -87,8 +89,9 @@ returns-3 c =
     let e1 = fd .before .before in
     let sh = e1 .before in
     let a = sh .before .before .before .before .args in
-    let m = meaning (a .h) (now (a .keys)) (now (a .times)) (now (a .values)) in
-    turned-down (Update (a .n) (a .k) (a .e)) (a .h) (now (a .keys)) (now (a .times)) (now (a .values))
+    let cs = columns (now (a .keys)) (now (a .times)) (now (a .values)) in
+    let m = meaning (a .h) cs in
+    turned-down (Update (a .n) (a .k) (a .e)) (a .h) cs
     (sym (sh .shaped .ensures .0) ∙ not-false _ (e1 .if1 .left)) _ BadKey (c .refused3 .ensures)
     (say 3 (mapRefusal (Update (a .n) (a .k) (a .e)) m) Absent
     (update-key m (a .n) _ _ _ (place-found (a .h .slots) (a .n) _ (fd .find .ensures .0) _ (fo .found .given .1)) (a .k) (a .e) (t2 .if2 .taken)))
@@ -128,8 +131,9 @@ returns-4 c =
     let e1 = fd .before .before in
     let sh = e1 .before in
     let a = sh .before .before .before .before .args in
-    let m = meaning (a .h) (now (a .keys)) (now (a .times)) (now (a .values)) in
-    turned-down (Update (a .n) (a .k) (a .e)) (a .h) (now (a .keys)) (now (a .times)) (now (a .values))
+    let cs = columns (now (a .keys)) (now (a .times)) (now (a .values)) in
+    let m = meaning (a .h) cs in
+    turned-down (Update (a .n) (a .k) (a .e)) (a .h) cs
     (sym (sh .shaped .ensures .0) ∙ not-false _ (e1 .if1 .left)) _ KeysFull (c .refused4 .ensures)
     (say 8 (mapRefusal (Update (a .n) (a .k) (a .e)) m) Absent
     (update-full m (a .n) _ _ _ (place-found (a .h .slots) (a .n) _ (fd .find .ensures .0) _ (fo .found .given .1)) (a .k) (a .e) (e2 .if2 .left)
@@ -143,8 +147,9 @@ running-value-requires c κs =
     let e1 = fd .before .before in
     let sh = e1 .before in
     let a = sh .before .before .before .before .args in
+    let cs = columns (now (a .keys)) (now (a .times)) (now (a .values)) in
     let w = sh .shaped .ensures .1 (not-false _ (e1 .if1 .left)) in
-    (rowed-found (a .h .slots) (a .n) _ (fd .find .ensures .0) _ (fo .found .given .1) (w .formed), lent (a .h) (now (a .keys)) (now (a .times)) (now (a .values)) w)
+    (rowed-found (a .h .slots) (a .n) _ (fd .find .ensures .0) _ (fo .found .given .1) (w .formed), lent (a .h) cs w)
 
 note-requires : tie.Need-note-requires
 note-requires c κs = search needs
@@ -177,8 +182,9 @@ returns-5 c =
     let e1 = fd .before .before in
     let sh = e1 .before in
     let a = sh .before .before .before .before .args in
-    let m = meaning (a .h) (now (a .keys)) (now (a .times)) (now (a .values)) in
-    carried-out (Update (a .n) (a .k) (a .e)) (a .h) (now (a .keys)) (now (a .times)) (now (a .values))
+    let cs = columns (now (a .keys)) (now (a .times)) (now (a .values)) in
+    let m = meaning (a .h) cs in
+    carried-out (Update (a .n) (a .k) (a .e)) (a .h) cs
     (sym (sh .shaped .ensures .0) ∙ not-false _ (e1 .if1 .left)) _ _ (c .accepted .ensures)
     (say 0 (mapRefusal (Update (a .n) (a .k) (a .e)) m) Absent
     (update-fits m (a .n) _ _ _ (place-found (a .h .slots) (a .n) _ (fd .find .ensures .0) _ (fo .found .given .1)) (a .k) (a .e) (e2 .if2 .left)

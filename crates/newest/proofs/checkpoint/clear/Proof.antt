@@ -1,5 +1,5 @@
 -- `newest::checkpoint::clear` meets its contract. The loop's invariant: the rows from `from` up to i are zero. The measure is how many rows are left.
-use mathlib.Core.Path.{_≡_, refl}
+use mathlib.Core.Path.{_≡_}
 use mathlib.Core.List.{List}
 use Prim.Native.Nat.{ℕ, _+_, _-_, _≤_}
 use native.Mathlib.Omega.{arith}
@@ -7,8 +7,10 @@ use borrow.Author.Needs.{needs}
 use denote.Ref.{now}
 use lib.ListN.{set, take-append-drop}
 use native.Mathlib.Nat.{sub-self}
-use Rattle.versions.specs.Columns.{Lent, zeroed, Cleared}
-use Rattle.newest.proofs.Cells.{Long, long-set, clear-more}
+use Rattle.versions.specs.Versions.{Columns, columns}
+use Rattle.versions.specs.Columns.{Lent, Long, each, zeroed, cleared}
+use Rattle.versions.specs.Laws.{long-self, lent-fewer, each-same}
+use Rattle.newest.proofs.Cells.{long-set, clear-more}
 use Rattle.newest.proofs.checkpoint.clear.Statement.{statement}
 use Rattle.newest.proofs.checkpoint.clear.Tie as tie
 
@@ -17,29 +19,27 @@ none : (m : ℕ) (cells : List ℕ) → cells ≡ zeroed m m cells
 none m cells = rw (sub-self, take-append-drop)
 
 -- one row more is zero
-more : (ks ts vs : List ℕ) {ks' ts' vs' : List ℕ} (m i : ℕ)
-    → m ≤ i → Lent (i + 1) ks ts vs → Cleared m i ks ts vs ks' ts' vs' → Cleared m (i + 1) ks ts vs (set ks' i 0) (set ts' i 0) (set vs' i 0)
-more ks ts vs m i l h w =
-    record {
-      keys = rw (w .keys) (clear-more m i ks l (omega (arith, h .keys)));
-      times = rw (w .times) (clear-more m i ts l (omega (arith, h .times)));
-      values = rw (w .values) (clear-more m i vs l (omega (arith, h .values)));
-    }
+more : (cs : Columns) {cs' : Columns} (m i : ℕ) → m ≤ i → Lent (i + 1) cs → cs' ≡ cleared m i cs → each (λ field cells. set cells i 0) cs' ≡ cleared m (i + 1) cs
+more cs m i l h w =
+    rw w (each-same h (λ field cells. set (zeroed m i cells) i 0) (λ field. zeroed m (i + 1)) (λ field cells k. clear-more m i cells l (omega arith)))
 
 abbrev Inv-loop : tie.InvT-loop
 Inv-loop keys₀ times₀ values₀ from to i₀ keys times values i =
-    (from ≤ i) × (i ≤ to) × Long keys₀ times₀ values₀ keys times values × Cleared from i keys₀ times₀ values₀ keys times values
+    let cs = columns keys₀ times₀ values₀ in
+    let cs' = columns keys times values in
+    (from ≤ i) × (i ≤ to) × Long cs cs' × (cs' ≡ cleared from i cs)
 
 abbrev μ-loop : tie.MeasureT-loop
 μ-loop keys₀ times₀ values₀ from to i₀ keys times values i = to - i
 
 loop-holds : tie.Need-loop-holds Inv-loop μ-loop
 loop-holds c =
-    let a = c .args in (
+    let a = c .args in
+    let cs = columns (now (a .keys)) (now (a .times)) (now (a .values)) in (
       omega arith,
       omega arith,
-      record { keys = refl; times = refl; values = refl },
-      record { keys = none (a .from) (now (a .keys)); times = none (a .from) (now (a .times)); values = none (a .from) (now (a .values)) },
+      long-self cs,
+      each-same (lent-fewer (c .pre .0) {m = 0} (omega arith)) (λ field cells. cells) (λ field. zeroed (a .from) (a .from)) (λ field cells k. none (a .from) cells),
     )
 
 mul-keys : tie.Need-mul-keys Inv-loop μ-loop
@@ -71,12 +71,11 @@ loop-again c =
     let l = c .before .loop in
     let s = c .before .before in
     let a = s .args in
-    let p = s .pre .0 in (
+    let cs = columns (now (a .keys)) (now (a .times)) (now (a .values)) in (
       omega arith,
       omega arith,
-      long-set (l .i) 0 0 0 (l .inv .2),
-      more (now (a .keys)) (now (a .times)) (now (a .values)) (a .from) (l .i) (l .inv .0)
-          (record { keys = omega (arith, p .keys); times = omega (arith, p .times); values = omega (arith, p .values) }) (l .inv .3),
+      long-set (l .inv .2) (l .i) (λ cells. 0),
+      more cs (a .from) (l .i) (l .inv .0) (lent-fewer (s .pre .0) (omega arith)) (l .inv .3),
     )
 
 same-length : tie.Need-same-length Inv-loop μ-loop

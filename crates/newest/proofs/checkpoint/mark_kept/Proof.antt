@@ -9,7 +9,7 @@ use denote.Ref.{now}
 use lib.Dec.{ltb}
 use lib.ListN.{length, getD, take}
 use Rattle.rules.specs.Lists.{among}
-use Rattle.versions.specs.Versions.{versionAt, versionsOf, newest, isRow, stays}
+use Rattle.versions.specs.Versions.{Columns, keyed, versionAt, versionsOf, newest, isRow, stays}
 use Rattle.table.specs.Table.{Next}
 use Rattle.table.specs.Laws.{next-within}
 use Rattle.newest.specs.Newest.{newestRows}
@@ -25,12 +25,12 @@ last-first false true false = refl
 last-first false false true = refl
 last-first false false false = refl
 
-marked : (ks ts vs : List ℕ) (t n : ℕ) {a b a' b' : List ℕ} {m : ℕ} → Next (newestRows ks ts t n) a b a' b' m → (i : ℕ) (late also all : Bool)
-    → late ≡ ltb t (getD ts i 0) → also ≡ (among i (take m b') || late) → all ≡ (isRow i (newest 0 t (versionsOf n ks ts vs)) || also)
-    → all ≡ stays t (versionsOf n ks ts vs) i (versionAt i ks ts vs)
-marked ks ts vs t n {b' = b'} {m = m} w i late also all p q r =
+marked : (ks ts : List ℕ) (others : Columns) (t n : ℕ) {a b a' b' : List ℕ} {m : ℕ} → Next (newestRows ks ts t n) a b a' b' m → (i : ℕ) (late also all : Bool)
+    → late ≡ ltb t (getD ts i 0) → also ≡ (among i (take m b') || late) → all ≡ (isRow i (newest 0 t (versionsOf n (keyed ks ts others))) || also)
+    → all ≡ stays t (versionsOf n (keyed ks ts others)) i (versionAt i (keyed ks ts others))
+marked ks ts others t n {b' = b'} {m = m} w i late also all p q r =
     rw (r, q, p)
-    (last-first (isRow i (newest 0 t (versionsOf n ks ts vs))) (among i (take m b')) (ltb t (getD ts i 0)) ∙ rw (kept-row ks ts t n w vs i))
+    (last-first (isRow i (newest 0 t (versionsOf n (keyed ks ts others)))) (among i (take m b')) (ltb t (getD ts i 0)) ∙ rw (kept-row ks ts t n w others i))
 
 newest-rows-requires : tie.Need-newest-rows-requires
 newest-rows-requires c κs = search needs
@@ -61,15 +61,15 @@ same-length-3 : tie.Need-same-length-3
 same-length-3 c = search needs
 
 returns : tie.Need-returns
-returns c values i h =
+returns c others i h =
     let z = c .before .before in
     let m = z .before .before .before .before in
     let l = m .before .before .before .before .before in
     let g = l .before .before .before .before .before .before in
     let s = g .before .before .before .before .before .before .before .before in
     let a = s .args in
-    marked (now (a .keys)) (now (a .times)) values (a .t) (a .used) (g .newest-rows .ensures) i _ _ _ (l .mark-late .ensures i h) (m .mark-named .ensures i)
-    (z .mark-zero .ensures values i)
+    marked (now (a .keys)) (now (a .times)) others (a .t) (a .used) (g .newest-rows .ensures) i _ _ _ (l .mark-late .ensures i h) (m .mark-named .ensures i)
+    (z .mark-zero .ensures others i)
 
 pub mark-kept-spec : {M : Type 1} → statement M
 mark-kept-spec =

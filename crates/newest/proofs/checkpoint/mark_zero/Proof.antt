@@ -13,25 +13,27 @@ use lib.Seq.{getD-set-same, getD-set-other}
 use Rattle.rules.specs.Bools.{split}
 use Rattle.column.specs.declared.Found.{Found}
 use Rattle.column.specs.declared.Found.the-variants.{At, Nothing}
-use Rattle.versions.specs.Versions.{versionsOf, newest, rowOf, isRow}
+use Rattle.versions.specs.Versions.{Columns, noColumns, keyed, versionsOf, newest, rowOf, isRow}
 use Rattle.versions.specs.Laws.{found-version, found-newest, none-found}
 use Rattle.newest.proofs.checkpoint.mark_zero.Statement.{statement}
 use Rattle.newest.proofs.checkpoint.mark_zero.Tie as tie
 
-module _ (ks ts : List ℕ) (n t : ℕ) (marks : List Bool) (f : Found) (h : (vs : List ℕ) → f ≡ rowOf (newest 0 t (versionsOf n ks ts vs))) where
+module _ (ks ts : List ℕ) (n t : ℕ) (marks : List Bool) (f : Found)
+    (h : (others : Columns) → f ≡ rowOf (newest 0 t (versionsOf n (keyed ks ts others)))) where
   within : (j : ℕ) → f ≡ At j → j < n
-  within j e = found-newest 0 t ks ts ks n (sym (h ks) ∙ e) .row
+  within j e = found-newest 0 t (keyed ks ts noColumns) n (sym (h noColumns) ∙ e) .row
 
-  found : (j : ℕ) → f ≡ At j → j < length marks → (vs : List ℕ) (i : ℕ)
-      → getD (set marks j true) i false ≡ (isRow i (newest 0 t (versionsOf n ks ts vs)) || getD marks i false)
-  found j e l vs i =
-      rw (found-version 0 t ks ts vs n (sym (h vs) ∙ e))
+  found : (j : ℕ) → f ≡ At j → j < length marks → (others : Columns) (i : ℕ)
+      → getD (set marks j true) i false ≡ (isRow i (newest 0 t (versionsOf n (keyed ks ts others))) || getD marks i false)
+  found j e l others i =
+      rw (found-version 0 t (keyed ks ts others) n (sym (h others) ∙ e))
       (split (eqb i j)
       (λ q. rw (q, eqb-true i j q) (getD-set-same marks j true false l))
       (λ q. rw q (getD-set-other marks j i true false (eqb-false i j q))))
 
-  none : f ≡ Nothing → (vs : List ℕ) (i : ℕ) → getD marks i false ≡ (isRow i (newest 0 t (versionsOf n ks ts vs)) || getD marks i false)
-  none e vs i = rw (none-found 0 t ks ts vs n (sym (h vs) ∙ e))
+  none : f ≡ Nothing → (others : Columns) (i : ℕ)
+      → getD marks i false ≡ (isRow i (newest 0 t (versionsOf n (keyed ks ts others))) || getD marks i false)
+  none e others i = rw (none-found 0 t (keyed ks ts others) n (sym (h others) ∙ e))
 
 newest-row-requires : tie.Need-newest-row-requires
 newest-row-requires c κs = search needs

@@ -11,49 +11,48 @@ use borrow.Author.Needs.{needs}
 use denote.Ref.{now}
 use lib.ListN.{length, getD, set}
 use Rattle.versions.specs.declared.Version.{Version}
-use Rattle.versions.specs.Versions.{versionAt, versionsOf}
-use Rattle.versions.specs.Columns.{Lent, marked, over, Moved}
-use Rattle.versions.specs.Laws.{length-versions}
-use Rattle.newest.proofs.Cells.{Long, long-set, over-behind, over-more}
+use Rattle.versions.specs.Versions.{Columns, columns, versionAt, versionsOf}
+use Rattle.versions.specs.Columns.{Lent, Long, each, marked, over, Moved}
+use Rattle.versions.specs.Laws.{length-versions, columns-same, long-self, lent-fewer}
+use Rattle.newest.proofs.Cells.{long-set, over-behind, over-more}
 use Rattle.newest.proofs.checkpoint.move_up.Statement.{statement}
 use Rattle.newest.proofs.checkpoint.move_up.Tie as tie
 
 -- a version's field is written behind the versions that moved up before it
-write : (field : Version → ℕ) (rows : List Version) (cells now' new : List ℕ) (m i : ℕ) (v : Version) → m ≡ length rows → m ≤ i
-    → i < length cells → field v ≡ getD cells i 0 → now' ≡ over field rows cells → new ≡ set now' m (getD now' i 0)
-    → new ≡ over field (v ∷ rows) cells
-write field rows cells now' new m i v c l h f w e =
-    let r : getD now' i 0 ≡ field v = rw w (over-behind field rows cells i (omega arith)) ∙ sym f in
-    rw (e, r, c, w) (over-more field rows cells v (omega arith))
+write : (field : Version → ℕ) (rows : List Version) (cells : List ℕ) (m i : ℕ) (v : Version) → m ≡ length rows → m ≤ i → i < length cells
+    → field v ≡ getD cells i 0 → set (over field rows cells) m (getD (over field rows cells) i 0) ≡ over field (v ∷ rows) cells
+write field rows cells m i v c l h f =
+    let r : getD (over field rows cells) i 0 ≡ field v = over-behind field rows cells i (omega arith) ∙ sym f in
+    rw (r, c) (over-more field rows cells v (omega arith))
 
-module _ (marks : List Bool) (ks ts vs : List ℕ) {ks₁ ts₁ vs₁ ks₂ ts₂ vs₂ : List ℕ} {m n : ℕ} (i : ℕ)
-    (w : Moved (marked marks (versionsOf i ks ts vs)) ks ts vs ks₁ ts₁ vs₁ m) where
-  moves : getD marks i false ≡ true → m ≤ i → Lent (i + 1) ks ts vs → ks₂ ≡ set ks₁ m (getD ks₁ i 0) → ts₂ ≡ set ts₁ m (getD ts₁ i 0)
-      → vs₂ ≡ set vs₁ m (getD vs₁ i 0) → n ≡ m + 1 → Moved (marked marks (versionsOf (i + 1) ks ts vs)) ks ts vs ks₂ ts₂ vs₂ n
-  moves e l h a b d f =
-      let old = marked marks (versionsOf i ks ts vs) in
-      let z : marked marks (versionsOf (i + 1) ks ts vs) ≡ versionAt i ks ts vs ∷ old = rw (add-one, length-versions i ks ts vs, e) in
-      let here = versionAt i ks ts vs in
+module _ (marks : List Bool) (cs : Columns) {cs₁ cs₂ : Columns} {m n : ℕ} (i : ℕ) (w : Moved (marked marks (versionsOf i cs)) cs cs₁ m) where
+  moves : getD marks i false ≡ true → m ≤ i → Lent (i + 1) cs → cs₂ ≡ each (λ field cells. set cells m (getD cells i 0)) cs₁ → n ≡ m + 1
+      → Moved (marked marks (versionsOf (i + 1) cs)) cs cs₂ n
+  moves e l h a f =
+      let old = marked marks (versionsOf i cs) in
+      let here = versionAt i cs in
+      let z : marked marks (versionsOf (i + 1) cs) ≡ here ∷ old = rw (add-one, length-versions i cs, e) in
       rw z
       (record {
         count = f ∙ (add-one m ∙ ap suc (w .count));
-        keys = write (λ v. v .key) old ks ks₁ ks₂ m i here (w .count) l (omega (arith, h .keys)) refl (w .keys) a;
-        times = write (λ v. v .time) old ts ts₁ ts₂ m i here (w .count) l (omega (arith, h .times)) refl (w .times) b;
-        values = write (λ v. v .value) old vs vs₁ vs₂ m i here (w .count) l (omega (arith, h .values)) refl (w .values) d;
+        cells =
+            rw (a, w .cells)
+            (columns-same
+            (write (λ v. v .key) old (cs .keys) m i here (w .count) l (omega (arith, h .keys)) refl)
+            (write (λ v. v .time) old (cs .times) m i here (w .count) l (omega (arith, h .times)) refl)
+            (write (λ v. v .value) old (cs .values) m i here (w .count) l (omega (arith, h .values)) refl));
       })
 
-  passes : getD marks i false ≡ false → ks₂ ≡ ks₁ → ts₂ ≡ ts₁ → vs₂ ≡ vs₁ → n ≡ m
-      → Moved (marked marks (versionsOf (i + 1) ks ts vs)) ks ts vs ks₂ ts₂ vs₂ n
-  passes e a b d f =
-      let z : marked marks (versionsOf (i + 1) ks ts vs) ≡ marked marks (versionsOf i ks ts vs) = rw (add-one, length-versions i ks ts vs, e) in
-      rw (z, a, b, d, f) w
+  passes : getD marks i false ≡ false → cs₂ ≡ cs₁ → n ≡ m → Moved (marked marks (versionsOf (i + 1) cs)) cs cs₂ n
+  passes e a f =
+      let z : marked marks (versionsOf (i + 1) cs) ≡ marked marks (versionsOf i cs) = rw (add-one, length-versions i cs, e) in
+      rw (z, a, f) w
 
 abbrev Inv-loop : tie.InvT-loop
 Inv-loop keys₀ times₀ values₀ used marks kept₀ i₀ keys times values kept i =
-    (kept ≤ i)
-    × (i ≤ used)
-    × Long keys₀ times₀ values₀ keys times values
-    × Moved (marked marks (versionsOf i keys₀ times₀ values₀)) keys₀ times₀ values₀ keys times values kept
+    let cs = columns keys₀ times₀ values₀ in
+    let cs' = columns keys times values in
+    (kept ≤ i) × (i ≤ used) × Long cs cs' × Moved (marked marks (versionsOf i cs)) cs cs' kept
 
 abbrev μ-loop : tie.MeasureT-loop
 μ-loop keys₀ times₀ values₀ used marks kept₀ i₀ keys times values kept i = used - i
@@ -62,8 +61,8 @@ loop-holds : tie.Need-loop-holds Inv-loop μ-loop
 loop-holds c = (
   omega arith,
   omega arith,
-  record { keys = refl; times = refl; values = refl },
-  record { count = refl; keys = refl; times = refl; values = refl },
+  long-self _,
+  record { count = refl; cells = refl },
 )
 
 shared-slice-read-if1 : tie.Need-shared-slice-read-if1 Inv-loop μ-loop
@@ -119,23 +118,19 @@ loop-again c =
     let l = c .before .before .before .loop in
     let s = c .before .before .before .before in
     let a = s .args in
-    let p = s .pre .0 in
-    let ks = now (a .keys) in
-    let ts = now (a .times) in
-    let vs = now (a .values) in
+    let cs = columns (now (a .keys)) (now (a .times)) (now (a .values)) in
     ⊎-elim
     (λ w. (
       omega arith,
       omega arith,
-      rw (w .4, w .5, w .6) (long-set (l .kept) _ _ _ (l .inv .2)),
-      moves (now (a .marks)) ks ts vs (l .i) (l .inv .3) (w .0 .taken) (l .inv .0)
-          (record { keys = omega (arith, p .keys); times = omega (arith, p .times); values = omega (arith, p .values) }) (w .4) (w .5) (w .6) (w .7),
+      rw (w .4, w .5, w .6) (long-set (l .inv .2) (l .kept) (λ cells. getD cells (l .i) 0)),
+      moves (now (a .marks)) cs (l .i) (l .inv .3) (w .0 .taken) (l .inv .0) (lent-fewer (s .pre .0) (omega arith)) (columns-same (w .4) (w .5) (w .6)) (w .7),
     ))
     (λ w. (
       omega arith,
       omega arith,
       rw (w .1, w .2, w .3) (l .inv .2),
-      passes (now (a .marks)) ks ts vs (l .i) (l .inv .3) (w .0 .left) (w .1) (w .2) (w .3) (w .4),
+      passes (now (a .marks)) cs (l .i) (l .inv .3) (w .0 .left) (columns-same (w .1) (w .2) (w .3)) (w .4),
     ))
     (c .if1 .came)
 

@@ -1,6 +1,7 @@
 -- `newest::list::listing` meets its contract: the table of the newest rows, followed to the values, is the list.
 use native.Mathlib.Omega.{arith}
 use denote.Ref.{now}
+use Rattle.versions.specs.Versions.{columns}
 use Rattle.table.specs.Laws.{next-within}
 use Rattle.newest.specs.Laws.{named, listed-columns}
 use borrow.Author.Needs.{needs}
@@ -31,7 +32,7 @@ returns c =
     let g = f .before .before .before .before .before .before in
     let s = g .before .before .before .before .before .before .before .before in
     let a = s .args in
-    listed-columns (now (a .values)) (now (a .keys)) (now (a .times)) (a .t) (a .used) _ _ _ _ _ _ (g .newest-rows .ensures) (f .follow .ensures)
+    listed-columns (columns (now (a .keys)) (now (a .times)) (now (a .values))) (a .t) (a .used) _ _ _ _ _ _ (g .newest-rows .ensures) (f .follow .ensures)
 
 pub listing-spec : {M : Type 1} → statement M
 listing-spec =

@@ -7,7 +7,7 @@ use Prim.Native.Nat.{ℕ, _-_, _≤_}
 use native.Mathlib.Omega.{arith}
 use borrow.Author.Needs.{needs}
 use denote.Ref.{now}
-use Rattle.versions.specs.Versions.{versionsOf, later}
+use Rattle.versions.specs.Versions.{Columns, keyed, versionsOf, later}
 use Rattle.versions.specs.Laws.{later-among}
 use Rattle.versions.specs.Search.{Passed}
 use Rattle.versions.specs.SearchLaws.{later-passed, early-none}
@@ -15,13 +15,13 @@ use Rattle.versions.proofs.conflict.is_later.Statement.{statement}
 use Rattle.versions.proofs.conflict.is_later.Tie as tie
 
 -- rows that are passed have no later version either
-none : (k s : ℕ) (ks ts : List ℕ) (i n r : ℕ) → Passed k ks i n r → ((vs : List ℕ) → later s k (versionsOf i ks ts vs) ≡ false)
-    → (vs : List ℕ) → later s k (versionsOf r ks ts vs) ≡ false
-none k s ks ts i n r w h vs = later-passed k ks ts vs w s ∙ h vs
+none : (k s : ℕ) (ks ts : List ℕ) (i n r : ℕ) → Passed k ks i n r → ((others : Columns) → later s k (versionsOf i (keyed ks ts others)) ≡ false)
+    → (others : Columns) → later s k (versionsOf r (keyed ks ts others)) ≡ false
+none k s ks ts i n r w h others = later-passed k (keyed ks ts others) w s ∙ h others
 
 abbrev Inv-loop : tie.InvT-loop
 Inv-loop keys times from used k s i₀ i =
-    (i ≤ used) × ((values : List ℕ) → later s k (versionsOf i keys times values) ≡ false)
+    (i ≤ used) × ((others : Columns) → later s k (versionsOf i (keyed keys times others)) ≡ false)
 
 abbrev μ-loop : tie.MeasureT-loop
 μ-loop keys times from used k s i₀ i = used - i
@@ -30,18 +30,18 @@ loop-holds : tie.Need-loop-holds Inv-loop μ-loop
 loop-holds c =
     let b = c .before .before in
     let a = b .args in
-    (b .pre .0, λ values. early-none (a .k) (now (a .keys)) (now (a .times)) values (a .s) (a .from) (b .pre .3))
+    (b .pre .0, λ others. early-none (a .k) (keyed (now (a .keys)) (now (a .times)) others) (a .s) (a .from) (b .pre .3))
 
 pass-requires : tie.Need-pass-requires Inv-loop μ-loop
 pass-requires c κs = search needs
 
 returns : tie.Need-returns Inv-loop μ-loop
-returns c values =
+returns c others =
     let p = c .before in
     let l = p .before .loop in
     let a = p .before .before .before .before .args in
     let e : p .pass .result ≡ a .used = omega (arith, p .pass .ensures .within) in
-    sym (rw e at (none (a .k) (a .s) (now (a .keys)) (now (a .times)) (l .i) (a .used) _ (p .pass .ensures) (l .inv .1) values))
+    sym (rw e at (none (a .k) (a .s) (now (a .keys)) (now (a .times)) (l .i) (a .used) _ (p .pass .ensures) (l .inv .1) others))
 
 near-requires : tie.Need-near-requires Inv-loop μ-loop
 near-requires c κs = search needs
@@ -58,18 +58,18 @@ is-later-among-requires c κs =
     )
 
 returns-2 : tie.Need-returns-2 Inv-loop μ-loop
-returns-2 c values =
+returns-2 c others =
     let g = c .before in
     let p = g .before .before .before in
     let a = p .before .before .before .before .args in
-    sym (later-among (a .s) (a .k) (g .before .near .result) (a .used) (now (a .keys)) (now (a .times)) values (omega arith)
-    (sym (g .is-later-among .ensures values) ∙ c .if2 .taken))
+    sym (later-among (a .s) (a .k) (g .before .near .result) (a .used) (keyed (now (a .keys)) (now (a .times)) others) (omega arith)
+    (sym (g .is-later-among .ensures others) ∙ c .if2 .taken))
 
 loop-less : tie.Need-loop-less Inv-loop μ-loop
 loop-less c = search needs
 
 loop-again : tie.Need-loop-again Inv-loop μ-loop
-loop-again c = (omega arith, λ values. sym (c .before .is-later-among .ensures values) ∙ c .if2 .left)
+loop-again c = (omega arith, λ others. sym (c .before .is-later-among .ensures others) ∙ c .if2 .left)
 
 pub is-later-spec : {M : Type 1} → statement M
 is-later-spec =

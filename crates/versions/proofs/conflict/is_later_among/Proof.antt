@@ -2,7 +2,6 @@
 -- The measure is how many rows are left.
 use mathlib.Core.Path.{_≡_, refl, sym}
 use mathlib.Core.Bool.{true, false}
-use mathlib.Core.List.{List}
 use mathlib.Core.Logic.{⊎-elim}
 use Prim.Native.Nat.{ℕ, _+_, _-_, _≤_, _<_}
 use native.Mathlib.Numerals.{add-one}
@@ -11,27 +10,27 @@ use borrow.Author.Needs.{needs}
 use borrow.Author.Tests.{eq-eqb, ne-eqb, lt-ltb, le-ltb}
 use denote.Ref.{now}
 use lib.ListN.{getD}
-use Rattle.versions.specs.Versions.{versionsOf, later}
+use Rattle.versions.specs.Versions.{Columns, keyed, versionsOf, later}
 use Rattle.versions.specs.Laws.{later-among}
 use Rattle.versions.proofs.conflict.is_later_among.Statement.{statement}
 use Rattle.versions.proofs.conflict.is_later_among.Tie as tie
 
-module _ (ks ts vs : List ℕ) (i k s : ℕ) where
-  hit : (n : ℕ) → i < n → getD ks i 0 ≡ k → s < getD ts i 0 → true ≡ later s k (versionsOf n ks ts vs)
+module _ (cs : Columns) (i k s : ℕ) where
+  hit : (n : ℕ) → i < n → getD (cs .keys) i 0 ≡ k → s < getD (cs .times) i 0 → true ≡ later s k (versionsOf n cs)
   hit n l a b =
-      let here : later s k (versionsOf (i + 1) ks ts vs) ≡ true = rw (add-one, eq-eqb (getD ks i 0) k a, lt-ltb s (getD ts i 0) b) in
-      sym (later-among s k (i + 1) n ks ts vs (omega arith) here)
+      let here : later s k (versionsOf (i + 1) cs) ≡ true = rw (add-one, eq-eqb (getD (cs .keys) i 0) k a, lt-ltb s (getD (cs .times) i 0) b) in
+      sym (later-among s k (i + 1) n cs (omega arith) here)
 
-  module _ (inv : later s k (versionsOf i ks ts vs) ≡ false) where
-    other : (getD ks i 0 ≡ k → ⊥) → later s k (versionsOf (i + 1) ks ts vs) ≡ false
-    other a = rw (add-one, ne-eqb (getD ks i 0) k a) inv
+  module _ (inv : later s k (versionsOf i cs) ≡ false) where
+    other : (getD (cs .keys) i 0 ≡ k → ⊥) → later s k (versionsOf (i + 1) cs) ≡ false
+    other a = rw (add-one, ne-eqb (getD (cs .keys) i 0) k a) inv
 
-    early : getD ks i 0 ≡ k → getD ts i 0 ≤ s → later s k (versionsOf (i + 1) ks ts vs) ≡ false
-    early a b = rw (add-one, eq-eqb (getD ks i 0) k a, le-ltb s (getD ts i 0) b) inv
+    early : getD (cs .keys) i 0 ≡ k → getD (cs .times) i 0 ≤ s → later s k (versionsOf (i + 1) cs) ≡ false
+    early a b = rw (add-one, eq-eqb (getD (cs .keys) i 0) k a, le-ltb s (getD (cs .times) i 0) b) inv
 
 abbrev Inv-loop : tie.InvT-loop
 Inv-loop keys times from to k s i₀ i =
-    (i ≤ to) × ((values : List ℕ) → later s k (versionsOf i keys times values) ≡ false)
+    (i ≤ to) × ((others : Columns) → later s k (versionsOf i (keyed keys times others)) ≡ false)
 
 abbrev μ-loop : tie.MeasureT-loop
 μ-loop keys times from to k s i₀ i = to - i
@@ -52,11 +51,11 @@ shared-slice-read-if2 : tie.Need-shared-slice-read-if2 Inv-loop μ-loop
 shared-slice-read-if2 c = search needs
 
 returns : tie.Need-returns Inv-loop μ-loop
-returns c values =
+returns c others =
     let e1 = c .before .before in
     let l = e1 .before .before .before .loop in
     let a = e1 .before .before .before .before .args in
-    hit (now (a .keys)) (now (a .times)) values (l .i) (a .k) (a .s) (a .to) (omega arith) (e1 .if1 .taken) (c .if2 .taken)
+    hit (keyed (now (a .keys)) (now (a .times)) others) (l .i) (a .k) (a .s) (a .to) (omega arith) (e1 .if1 .taken) (c .if2 .taken)
 
 add-i : tie.Need-add-i Inv-loop μ-loop
 add-i c = search needs
@@ -69,18 +68,18 @@ loop-again c =
     let l = c .before .before .before .loop in
     let a = c .before .before .before .before .args in (
       omega arith,
-      λ values.
+      λ others.
           ⊎-elim
-          (λ w. early (now (a .keys)) (now (a .times)) values (l .i) (a .k) (a .s) (l .inv .1 values) (w .0 .taken) (w .2 .left))
-          (λ w. other (now (a .keys)) (now (a .times)) values (l .i) (a .k) (a .s) (l .inv .1 values) (w .left))
+          (λ w. early (keyed (now (a .keys)) (now (a .times)) others) (l .i) (a .k) (a .s) (l .inv .1 others) (w .0 .taken) (w .2 .left))
+          (λ w. other (keyed (now (a .keys)) (now (a .times)) others) (l .i) (a .k) (a .s) (l .inv .1 others) (w .left))
           (c .if1 .came),
     )
 
 returns-2 : tie.Need-returns-2 Inv-loop μ-loop
-returns-2 c values =
+returns-2 c others =
     let l = c .before .loop in
     let e : l .i ≡ c .before .before .args .to = omega arith in
-    sym (rw e at (l .inv .1 values))
+    sym (rw e at (l .inv .1 others))
 
 pub is-later-among-spec : {M : Type 1} → statement M
 is-later-among-spec =

@@ -7,7 +7,7 @@ use native.Mathlib.Omega.{arith}
 use borrow.Author.Needs.{needs}
 use denote.Ref.{now}
 use Rattle.column.specs.declared.Found.{Found}
-use Rattle.versions.specs.Versions.{versionsOf, newest, rowOf}
+use Rattle.versions.specs.Versions.{Columns, keyed, versionsOf, newest, rowOf}
 use Rattle.versions.specs.Search.{Passed}
 use Rattle.versions.specs.SearchLaws.{newest-passed}
 use Rattle.versions.proofs.search.newest_row.Statement.{statement}
@@ -15,18 +15,19 @@ use Rattle.versions.proofs.search.newest_row.Tie as tie
 
 -- rows that are passed leave the best row
 stays : (k t : ℕ) (ks ts : List ℕ) (i n r : ℕ) (best : Found) → Passed k ks i n r
-    → ((vs : List ℕ) → best ≡ rowOf (newest k t (versionsOf i ks ts vs))) → (vs : List ℕ) → best ≡ rowOf (newest k t (versionsOf r ks ts vs))
-stays k t ks ts i n r best w h vs = h vs ∙ ap rowOf (sym (newest-passed k ks ts vs w t))
+    → ((others : Columns) → best ≡ rowOf (newest k t (versionsOf i (keyed ks ts others))))
+    → (others : Columns) → best ≡ rowOf (newest k t (versionsOf r (keyed ks ts others)))
+stays k t ks ts i n r best w h others = h others ∙ ap rowOf (sym (newest-passed k (keyed ks ts others) w t))
 
 abbrev Inv-loop : tie.InvT-loop
 Inv-loop keys times used k t best₀ i₀ best i =
-    (i ≤ used) × ((values : List ℕ) → best ≡ rowOf (newest k t (versionsOf i keys times values)))
+    (i ≤ used) × ((others : Columns) → best ≡ rowOf (newest k t (versionsOf i (keyed keys times others))))
 
 abbrev μ-loop : tie.MeasureT-loop
 μ-loop keys times used k t best₀ i₀ best i = used - i
 
 loop-holds : tie.Need-loop-holds Inv-loop μ-loop
-loop-holds c = (omega arith, λ values. refl)
+loop-holds c = (omega arith, λ others. refl)
 
 pass-requires : tie.Need-pass-requires Inv-loop μ-loop
 pass-requires c κs = search needs
@@ -52,12 +53,12 @@ loop-again : tie.Need-loop-again Inv-loop μ-loop
 loop-again c = (omega arith, c .newer-rows .ensures)
 
 returns : tie.Need-returns Inv-loop μ-loop
-returns c values =
+returns c others =
     let p = c .before in
     let l = p .before .loop in
     let a = p .before .before .before .before .args in
     let e : p .pass .result ≡ a .used = omega (arith, p .pass .ensures .within) in
-    rw e at (stays (a .k) (a .t) (now (a .keys)) (now (a .times)) (l .i) (a .used) _ _ (p .pass .ensures) (l .inv .1) values)
+    rw e at (stays (a .k) (a .t) (now (a .keys)) (now (a .times)) (l .i) (a .used) _ _ (p .pass .ensures) (l .inv .1) others)
 
 pub newest-row-spec : {M : Type 1} → statement M
 newest-row-spec =
