@@ -1,6 +1,7 @@
 -- The history of a sequence, from the accepted calls alone: the committed transactions with their times and changes, and the running ones. Nothing is
 -- ever taken out of it but by a restart, and a checkpoint moves low only. With the stores it shares rule 3.1 (applied) and how rows are built from keys
--- and any function that gives their values (listed), and no other rule. Lists stand the newest first. Assumes nothing.
+-- and any function that gives their values (listed), and no other rule; also the names of the calls, and how a number is found in a list (among). Lists
+-- stand the newest first. Assumes nothing.
 use mathlib.Core.Bool.{Bool, true, false, cond, _&&_, _||_}
 use mathlib.Core.List.{List, [], _∷_}
 use Prim.Native.Nat.{ℕ, suc, max}

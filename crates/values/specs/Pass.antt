@@ -15,15 +15,12 @@ use Rattle.rules.specs.Kinds.{recordBytes}
 use Rattle.rules.specs.Effects.{applied, effects}
 use Rattle.rules.specs.Transactions.{of, wrote}
 use Rattle.rules.specs.Values.{value}
+use Rattle.rules.specs.Limits.{mostRecords}
 use Rattle.rules.specs.Columns.{Rows}
 use Rattle.record.specs.Bytes.{newest}
 use Rattle.column.specs.declared.Found.{Found}
 use Rattle.column.specs.declared.Found.the-variants.{At, Nothing}
 use Rattle.values.specs.declared.value.Settled.{Settled}
-
--- section 2: at most so many journal records
-abbrev pub mostRecords : ℕ
-mostRecords = 2048
 
 -- the used records stand in the journal, and are not too many
 pub record Records (journal : List ℕ) (used : ℕ) : Type 0 where
