@@ -1,5 +1,8 @@
+-- What a reader must believe.
 pub mod Column
-pub mod Laws
 pub mod Among
+-- Laws of it, and that no second answer satisfies a contract.
+pub mod Laws
 pub mod Unique
+-- Examples, computed.
 pub mod Examples

@@ -16,11 +16,10 @@ use Rattle.record.specs.Bytes.{Bytes}
 use Rattle.answer.specs.Reply.{Reply, told, after}
 use Rattle.journal_store.specs.declared.Head.{Head}
 use Rattle.journal_store.specs.Shape.{emptyHead, isShaped, meaning}
-use Rattle.journal_store.specs.Write.{Wrote}
-use Rattle.journal_store.specs.Recover.{isRecoverable, Recovered}
+use Rattle.journal_store.specs.Contracts.{Wrote, isRecoverable, Recovered}
 use Rattle.journal_store.specs.Tie.{SizedCall}
 use Rattle.history.specs.History.{Commitment, Deed, Did, Checkpointed, restarted, valueIn, writtenBy}
-use Rattle.journal_store.specs.Checkpoint as checkpoint
+use Rattle.journal_store.specs.Contracts as checkpoint
 
 -- what a host keeps of a journal store
 pub record Cells : Type 0 where

@@ -17,10 +17,7 @@ use Rattle.rules.specs.Passed.{passed}
 use Rattle.rules.specs.Calls.{Call, Begin, Update, Abort, Commit}
 use Rattle.answer.specs.Reply.{Reply, accepted, after}
 use Rattle.journal_store.specs.declared.Head.{Head}
-use Rattle.journal_store.specs.Write.{number, Wrote}
-use Rattle.journal_store.specs.Read.{readDecided, lookupDecided, shapedReply}
-use Rattle.journal_store.specs.List.{listNumber, ListedBy}
-use Rattle.journal_store.specs.Recover.{recoverReply, Recovered}
+use Rattle.journal_store.specs.Contracts.{number, Wrote, readDecided, lookupDecided, shapedReply, listNumber, ListedBy, recoverReply, Recovered}
 use Rattle.history.specs.History.{History, Deed, Did, Checkpointed, numbers, history, valueIn, listIn}
 use Rattle.history.specs.Refusals.{lastIn, timeRefused, refusalIn, lookupNumber}
 use Rattle.history.specs.Lawful.{Lawful, went}
@@ -34,7 +31,7 @@ use Rattle.map_store.specs.declared.MapHead.{MapHead}
 use Rattle.map_store.specs.Contracts.{readReply, lookupReply, ListedAt}
 use Rattle.history.specs.MapCells.{MapCells, MapLent, Does, begins, updates, aborts, commits, checkpoints, MapReached}
 use Rattle.history.specs.MapDemands.{map-accepted-is-lawful, map-lists, map-looks-up-the-history}
-use Rattle.journal_store.specs.Checkpoint as checkpoint
+use Rattle.journal_store.specs.Contracts as checkpoint
 use Rattle.map_store.specs.Contracts as contract
 
 -- deeds that were accepted are ones that the history does not refuse

@@ -20,10 +20,8 @@ use Rattle.record.specs.Laws.{length-newest}
 use Rattle.answer.specs.Reply.{Reply, accepted, told}
 use Rattle.journal_store.specs.declared.Head.{Head}
 use Rattle.journal_store.specs.Shape.{roomOf, rowRoom, meaning}
-use Rattle.journal_store.specs.Write.{number, Wrote}
-use Rattle.journal_store.specs.Read.{readDecided, lookupDecided, shapedReply, reply-good}
-use Rattle.journal_store.specs.List.{listNumber, ListedBy}
-use Rattle.journal_store.specs.Checkpoint.{checkpointNumber}
+use Rattle.journal_store.specs.Contracts.{number, Wrote, readDecided, lookupDecided, shapedReply, listNumber, ListedBy, checkpointNumber}
+use Rattle.journal_store.specs.Laws.{reply-good}
 use Rattle.history.specs.History.{Commitment, History, Deed, Did, Checkpointed, numbers, history, valueIn, reads, listIn, writtenBy, isPresent}
 use Rattle.history.specs.Refusals.{lastIn, timeRefused, refusalIn, givesIn, needIn, numberIn, lookupNumber, readNumber}
 use Rattle.history.specs.Listed.{value-present, history-lists}
@@ -37,7 +35,7 @@ use Rattle.history.specs.Meant.{courseOf}
 use Rattle.history.specs.Cells.{Cells, meaningOf, end, Lent, Shows, Registers, Reached}
 use Rattle.history.specs.Rows.{shown-registers}
 use Rattle.history.specs.Lent.{told-same, shows-same, tie, lent-passes, lent-meaning}
-use Rattle.journal_store.specs.Checkpoint as checkpoint
+use Rattle.journal_store.specs.Contracts as checkpoint
 
 -- The history's list has every register written by a transaction committed at or before t, and no other; each with the history's value, once, keys rising.
 pub list-has : (cs : List Commitment) (t : ℕ)

@@ -19,7 +19,7 @@ use Rattle.rules.specs.declared.Value.the-variants.{Absent}
 use Rattle.answer.specs.Reply.{Reply, accepted, told}
 use Rattle.journal_store.specs.declared.Head.{Head}
 use Rattle.journal_store.specs.Shape.{roomOf}
-use Rattle.journal_store.specs.Write.{number, Wrote}
+use Rattle.journal_store.specs.Contracts.{number, Wrote}
 use Rattle.history.specs.History.{Deed, numbers, history}
 use Rattle.history.specs.Cells.{Cells, meaningOf, end, Lent, Reached}
 use Rattle.history.specs.Meant.{meant}

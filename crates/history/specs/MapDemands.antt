@@ -21,9 +21,7 @@ use Rattle.versions.specs.Versions.{Columns}
 use Rattle.versions.specs.Laws.{length-versions}
 use Rattle.journal_store.specs.declared.Head.{Head}
 use Rattle.journal_store.specs.Shape.{roomOf}
-use Rattle.journal_store.specs.Write.{Wrote}
-use Rattle.journal_store.specs.Read.{readDecided, lookupDecided, shapedReply}
-use Rattle.journal_store.specs.List.{ListedBy}
+use Rattle.journal_store.specs.Contracts.{Wrote, readDecided, lookupDecided, shapedReply, ListedBy}
 use Rattle.map_store.specs.declared.MapHead.{MapHead}
 use Rattle.map_store.specs.Meaning.{MapStore, mapAnswer, abortRefusal, placeRefusal, rowsAt}
 use Rattle.map_store.specs.Contracts.{shapedNumber, readReply, lookupReply, ListedAt}

@@ -16,8 +16,7 @@ use Rattle.slot.specs.Slots.{slotOf, firstSlot, lowestFree}
 use Rattle.slot.specs.Places.{placesOf}
 use Rattle.versions.specs.Versions.{columns, versionsOf}
 use Rattle.journal_store.specs.Shape.{emptyHead, grown}
-use Rattle.journal_store.specs.Write.{number, Wrote}
-use Rattle.journal_store.specs.Read.{lookupDecided, shapedReply}
+use Rattle.journal_store.specs.Contracts.{number, Wrote, lookupDecided, shapedReply}
 use Rattle.map_store.specs.Heads.{headAfter, rowsIn, written}
 use Rattle.map_store.specs.Contracts.{Answered, Committed, lookupReply}
 use Rattle.history.specs.Cells.{Cells, meaningOf}

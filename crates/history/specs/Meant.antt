@@ -27,9 +27,8 @@ use Rattle.answer.specs.Reply.{Reply, after}
 use Rattle.compact.specs.Compact.{compacted}
 use Rattle.journal_store.specs.declared.Head.{Head}
 use Rattle.journal_store.specs.Shape.{grown, isShaped, Shaped, shape, roomOf, rowRoom, meaning}
-use Rattle.journal_store.specs.Write.{Wrote, number, room-left, need-some}
-use Rattle.journal_store.specs.Checkpoint.{checkpointHead, checkpointNumber}
-use Rattle.journal_store.specs.Recover.{risingKeys, journalBytes, isRecoverable, surviving, recoverReply, recoveredHead, Recoverable, recoverable, Recovered}
+use Rattle.journal_store.specs.Contracts.{Wrote, number, checkpointHead, checkpointNumber, risingKeys, journalBytes, isRecoverable, surviving, recoverReply, recoveredHead, Recoverable, Recovered}
+use Rattle.journal_store.specs.Laws.{room-left, need-some, recoverable}
 use Rattle.journal_store.specs.Tie.{SizedCall, fit-call, push-meaning, checkpoint-meaning, recover-meaning}
 use Rattle.journal_store.specs.ShapeLaws.{call-shaped, checkpoint-shaped, recover-shaped}
 use Rattle.history.specs.History.{Deed, Did, Checkpointed, restarted}
@@ -38,7 +37,7 @@ use Rattle.history.specs.Tied.{Tied, tied-restart, tied-call, tied-check
 use Rattle.history.specs.Room.{room-checkpoint, room-restart}
 use Rattle.history.specs.Cells.{Cells, meaningOf, end, Holds, Cut, lost, counting, Reached}
 use Rattle.history.specs.Cells as cells
-use Rattle.journal_store.specs.Checkpoint as checkpoint
+use Rattle.journal_store.specs.Contracts as checkpoint
 
 -- the store, its deeds and its records since, as the proofs on meanings have them
 abbrev pub courseOf : List Deed → ℕ → Cells → Course

@@ -10,7 +10,7 @@ use borrow.Author.Tests.{le-ltb}
 use Rattle.rules.specs.Passed.{passed}
 use Rattle.rules.specs.Calls.{Call, Begin, Update, Abort, Commit, withRoom}
 use Rattle.answer.specs.Reply.{Reply}
-use Rattle.journal_store.specs.List.{ListedBy}
+use Rattle.journal_store.specs.Contracts.{ListedBy}
 use Rattle.versions.specs.Versions.{Columns}
 use Rattle.history.specs.History.{Commitment, History, Deed, Did, Checkpointed, recalled, history, latest, listIn}
 use Rattle.history.specs.Refusals.{lastIn, timeRefused, refusalIn}

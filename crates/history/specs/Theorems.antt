@@ -16,10 +16,7 @@ use Rattle.record.specs.Bytes.{Bytes}
 use Rattle.answer.specs.Reply.{Reply, accepted, told}
 use Rattle.journal_store.specs.declared.Head.{Head}
 use Rattle.journal_store.specs.Shape.{roomOf, rowRoom}
-use Rattle.journal_store.specs.Write.{Wrote}
-use Rattle.journal_store.specs.Read.{readDecided, lookupDecided, shapedReply}
-use Rattle.journal_store.specs.List.{ListedBy}
-use Rattle.journal_store.specs.Recover.{Recovered}
+use Rattle.journal_store.specs.Contracts.{Wrote, readDecided, lookupDecided, shapedReply, ListedBy, Recovered}
 use Rattle.versions.specs.Versions.{Columns}
 use Rattle.map_store.specs.declared.MapHead.{MapHead}
 use Rattle.map_store.specs.Contracts.{readReply, lookupReply, ListedAt}
@@ -36,7 +33,7 @@ use Rattle.history.specs.Endings as endings
 use Rattle.history.specs.Silence as silence
 use Rattle.history.specs.Corollaries as corollaries
 use Rattle.map_store.specs.Shape as shape
-use Rattle.journal_store.specs.Checkpoint as checkpoint
+use Rattle.journal_store.specs.Contracts as checkpoint
 
 -- DEMAND 1. Every call answers for all inputs, and by the stores' Unique in one way alone; a refused call changes nothing it was lent. The other calls
 -- of both stores are in Corollaries.

@@ -1,2 +1,4 @@
+-- What a reader must believe.
 pub mod Answer
+-- Laws of it, and that no second answer satisfies a contract.
 pub mod Unique

@@ -12,11 +12,8 @@ use Rattle.rules.specs.Calls.{Call, Begin, Update, Abort, Commit}
 use Rattle.answer.specs.Reply.{Reply}
 use Rattle.journal_store.specs.declared.Head.{Head}
 use Rattle.journal_store.specs.Shape as journal-shape
-use Rattle.journal_store.specs.Write.{Wrote}
-use Rattle.journal_store.specs.Read.{shapedReply, readDecided, lookupDecided}
-use Rattle.journal_store.specs.List.{ListedBy}
-use Rattle.journal_store.specs.Checkpoint as journal-checkpoint
-use Rattle.journal_store.specs.Recover.{Recovered}
+use Rattle.journal_store.specs.Contracts.{Wrote, shapedReply, readDecided, lookupDecided, ListedBy, Recovered}
+use Rattle.journal_store.specs.Contracts as journal-checkpoint
 use Rattle.versions.specs.Versions.{Columns}
 use Rattle.map_store.specs.declared.MapHead.{MapHead}
 use Rattle.map_store.specs.Shape as map-shape

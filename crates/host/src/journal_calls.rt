@@ -2,11 +2,7 @@
 ghost use mathlib.Core.Path.{_≡_};
 ghost use Rattle.rules.specs.Calls.{Begin, Update, Abort, Commit};
 ghost use Rattle.journal_store.specs.Shape.{emptyHead};
-ghost use Rattle.journal_store.specs.Write.{Wrote};
-ghost use Rattle.journal_store.specs.Read.{readDecided, lookupDecided, shapedReply};
-ghost use Rattle.journal_store.specs.List.{ListedBy};
-ghost use Rattle.journal_store.specs.Checkpoint.{Checkpointed};
-ghost use Rattle.journal_store.specs.Recover.{Recovered};
+ghost use Rattle.journal_store.specs.Contracts.{Wrote, readDecided, lookupDecided, shapedReply, ListedBy, Checkpointed, Recovered};
 ghost use Rattle.answer.specs.Reply.{ofBegun, ofDone};
 ghost use Rattle.host.specs.Answer.{answerOf, Answers, JournalReturns};
 use crate::Answer;

@@ -1,8 +1,10 @@
+-- What a reader must believe.
 pub mod Kinds
 pub mod Walks
+pub mod Gathered
+-- Laws of it, and that no second answer satisfies a contract.
 pub mod Ends
 pub mod Some
 pub mod Meets
 pub mod Past
-pub mod Gathered
 pub mod Unique

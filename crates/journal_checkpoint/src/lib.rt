@@ -11,7 +11,7 @@ ghost use Rattle.answer.specs.Reply.{ofDone, told, refused as refusedBy};
 ghost use Rattle.values.specs.Pass.{Lent};
 ghost use Rattle.listing.specs.Settled.{Cells};
 ghost use Rattle.journal_store.specs.Shape.{Shaped, meaning, rowRoom};
-ghost use Rattle.journal_store.specs.Checkpoint.{Checkpointed, Settled};
+ghost use Rattle.journal_store.specs.Contracts.{Checkpointed, Settled};
 use answer::Done;
 use answer::Refusal;
 use journal::Base;

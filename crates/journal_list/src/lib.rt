@@ -7,7 +7,7 @@ ghost use lib.ListN.{length};
 ghost use Rattle.rules.specs.Calls.{lastOf};
 ghost use Rattle.answer.specs.Reply.{ofListed};
 ghost use Rattle.journal_store.specs.Shape.{meaning};
-ghost use Rattle.journal_store.specs.List.{isListShaped, ListedBy};
+ghost use Rattle.journal_store.specs.Contracts.{isListShaped, ListedBy};
 use answer::Listed;
 use answer::Refusal;
 use journal_store::Head;

@@ -3,7 +3,7 @@ ghost use mathlib.Core.Path.{_≡_};
 ghost use Prim.Native.Nat.{_≤_};
 ghost use lib.ListN.{length, take};
 ghost use Rattle.answer.specs.Reply.{ofDone};
-ghost use Rattle.journal_store.specs.Recover.{risingKeys, isRecoverable, Recovered};
+ghost use Rattle.journal_store.specs.Contracts.{risingKeys, isRecoverable, Recovered};
 use answer::Done;
 use answer::Refusal;
 use journal::Base;

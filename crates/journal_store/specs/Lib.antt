@@ -1,10 +1,9 @@
+-- What a reader must believe: the shape of a store and its meaning, and the contracts of the calls.
 pub mod Shape
-pub mod Write
+pub mod Contracts
+-- Laws of these, and that no second answer satisfies a contract.
 pub mod Tests
-pub mod Read
-pub mod List
-pub mod Checkpoint
-pub mod Recover
-pub mod Unique
-pub mod Tie
+pub mod Laws
 pub mod ShapeLaws
+pub mod Tie
+pub mod Unique

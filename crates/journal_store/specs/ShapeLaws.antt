@@ -22,9 +22,8 @@ use Rattle.compact.specs.Compact.{compacted}
 use Rattle.compact.specs.Laws.{length-compacted, length-kept, length-only}
 use Rattle.journal_store.specs.declared.Head.{Head}
 use Rattle.journal_store.specs.Shape.{grown, isShaped, Shaped, roomOf, rowRoom, meaning}
-use Rattle.journal_store.specs.Write.{room-left, need-some}
-use Rattle.journal_store.specs.Checkpoint.{checkpointHead}
-use Rattle.journal_store.specs.Recover.{surviving, recoveredHead, Recoverable}
+use Rattle.journal_store.specs.Contracts.{checkpointHead, surviving, recoveredHead, Recoverable}
+use Rattle.journal_store.specs.Laws.{room-left, need-some}
 
 -- a good shape passes the test
 pub shape-passes : (h : Head) (keys values bytes : ℕ) → Shaped h keys values bytes → isShaped h keys values bytes ≡ true

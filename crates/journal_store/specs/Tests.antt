@@ -8,7 +8,7 @@ use borrow.Author.Tests.{lt-ltb, le-ltb, le-leb, lt-leb, eq-eqb, ne-eqb}
 use Rattle.rules.specs.declared.Effect.{Effect}
 use Rattle.rules.specs.Calls.{Store, Call, Begin, Update, Abort, Commit, answer, gives, lastOf, nextOf, runningOf, runsIn, mayWriteIn, conflictIn}
 use Rattle.answer.specs.Reply.{told}
-use Rattle.journal_store.specs.Write.{decided}
+use Rattle.journal_store.specs.Contracts.{decided}
 
 module _ (room : ℕ) (s : Store) where
   -- the number that a call gets says what is decided

@@ -23,8 +23,7 @@ use Rattle.compact.specs.Compact.{compacted}
 use Rattle.compact.specs.Laws.{newest-compacted, fit-kept, fit-only}
 use Rattle.journal_store.specs.declared.Head.{Head}
 use Rattle.journal_store.specs.Shape.{grown, meaning}
-use Rattle.journal_store.specs.Checkpoint.{checkpointHead}
-use Rattle.journal_store.specs.Recover.{recoveredHead, surviving}
+use Rattle.journal_store.specs.Contracts.{checkpointHead, recoveredHead, surviving}
 
 -- the number of an effect
 abbrev pub amount : Effect → ℕ

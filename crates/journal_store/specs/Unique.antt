@@ -13,11 +13,7 @@ use Rattle.journal_store.specs.declared.Head.{Head}
 use Rattle.journal_store.specs.declared.Started.{Started}
 use Rattle.journal_store.specs.declared.Outcome.{Outcome}
 use Rattle.journal_store.specs.Shape.{emptyHead, isShaped}
-use Rattle.journal_store.specs.Write.{Wrote}
-use Rattle.journal_store.specs.Read.{shapedReply, readDecided, lookupDecided}
-use Rattle.journal_store.specs.List.{ListedBy}
-use Rattle.journal_store.specs.Checkpoint.{Checkpointed}
-use Rattle.journal_store.specs.Recover.{Recovered}
+use Rattle.journal_store.specs.Contracts.{Wrote, shapedReply, readDecided, lookupDecided, ListedBy, Checkpointed, Recovered}
 
 pub shaped-unique : (h : Head) (keys values bytes : ℕ) (a b : Bool) → a ≡ isShaped h keys values bytes → b ≡ isShaped h keys values bytes → a ≡ b
 shaped-unique h keys values bytes a b p q = p ∙ sym q

@@ -5,7 +5,7 @@ ghost use Rattle.rules.specs.Kinds.{aborted as abortedBy};
 ghost use Rattle.rules.specs.Calls.{Abort};
 ghost use Rattle.answer.specs.Reply.{ofDone};
 ghost use Rattle.journal_store.specs.Shape.{Shaped, meaning, roomOf};
-ghost use Rattle.journal_store.specs.Write.{decided, Wrote};
+ghost use Rattle.journal_store.specs.Contracts.{decided, Wrote};
 use crate::Head;
 use crate::Outcome;
 use answer::Done;

@@ -5,7 +5,7 @@ ghost use Rattle.rules.specs.Kinds.{begun as begunBy};
 ghost use Rattle.rules.specs.Calls.{Begin};
 ghost use Rattle.answer.specs.Reply.{ofBegun};
 ghost use Rattle.journal_store.specs.Shape.{Shaped, meaning, roomOf};
-ghost use Rattle.journal_store.specs.Write.{decided, Wrote};
+ghost use Rattle.journal_store.specs.Contracts.{decided, Wrote};
 use crate::Head;
 use crate::Started;
 use answer::Begun;

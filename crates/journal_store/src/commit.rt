@@ -5,7 +5,7 @@ ghost use Rattle.rules.specs.Kinds.{committed as committedBy};
 ghost use Rattle.rules.specs.Calls.{Commit};
 ghost use Rattle.answer.specs.Reply.{ofDone};
 ghost use Rattle.journal_store.specs.Shape.{Shaped, meaning, roomOf};
-ghost use Rattle.journal_store.specs.Write.{decided, Wrote};
+ghost use Rattle.journal_store.specs.Contracts.{decided, Wrote};
 use crate::Head;
 use crate::Outcome;
 use answer::Done;

@@ -6,7 +6,7 @@ ghost use Prim.Native.Nat.{_+_, _*_, _≤_};
 ghost use lib.ListN.{length};
 ghost use Rattle.rules.specs.Kinds.{recordBytes};
 ghost use Rattle.journal_store.specs.Shape.{emptyHead, grown, isShaped, roomOf};
-ghost use Rattle.journal_store.specs.Write.{Put};
+ghost use Rattle.journal_store.specs.Contracts.{Put};
 use answer::Begun;
 use answer::Done;
 use journal::Base;

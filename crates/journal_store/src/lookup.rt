@@ -3,7 +3,7 @@ ghost use mathlib.Core.Path.{_≡_};
 ghost use lib.ListN.{length};
 ghost use Rattle.answer.specs.Reply.{ofGot};
 ghost use Rattle.journal_store.specs.Shape.{Shaped, meaning};
-ghost use Rattle.journal_store.specs.Read.{lookupDecided, shapedReply};
+ghost use Rattle.journal_store.specs.Contracts.{lookupDecided, shapedReply};
 use crate::Head;
 use answer::Got;
 use answer::Refusal;

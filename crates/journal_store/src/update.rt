@@ -4,7 +4,7 @@ ghost use lib.ListN.{length};
 ghost use Rattle.rules.specs.Calls.{Update, updated as updatedBy};
 ghost use Rattle.answer.specs.Reply.{ofDone};
 ghost use Rattle.journal_store.specs.Shape.{Shaped, meaning, roomOf};
-ghost use Rattle.journal_store.specs.Write.{decided, Wrote};
+ghost use Rattle.journal_store.specs.Contracts.{decided, Wrote};
 use crate::Head;
 use crate::Outcome;
 use answer::Done;

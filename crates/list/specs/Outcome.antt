@@ -12,7 +12,7 @@ use Rattle.rules.specs.declared.Walked.the-variants.{Whole, BadAt}
 use Rattle.rules.specs.Bools.{split}
 use Rattle.rules.specs.Kinds.{recordBytes}
 use Rattle.rules.specs.Recovery.{walk}
-use Rattle.journal_store.specs.Recover.{surviving}
+use Rattle.journal_store.specs.Contracts.{surviving}
 use Rattle.report.specs.Text.{isLent, reportText, walkedText}
 use Rattle.report.specs.Written.{Reported}
 use Rattle.list.specs.declared.Outcome.{Outcome}

@@ -34,8 +34,8 @@ use Rattle.compact.specs.Compact.{compacted}
 use Rattle.compact.specs.Laws.{length-only}
 use Rattle.journal_store.specs.declared.Head.{Head}
 use Rattle.journal_store.specs.Shape.{emptyHead, meaning}
-use Rattle.journal_store.specs.List.{isListShaped, listNumber, ListedBy, list-rows}
-use Rattle.journal_store.specs.Recover.{isRecoverable, surviving, walkedReply, recoverReply, recoveredHead, Recovered, recoverable}
+use Rattle.journal_store.specs.Contracts.{isListShaped, listNumber, ListedBy, isRecoverable, surviving, walkedReply, recoverReply, recoveredHead, Recovered}
+use Rattle.journal_store.specs.Laws.{list-rows, recoverable}
 use Rattle.journal_store.specs.Tie.{recover-meaning}
 use Rattle.report.specs.Text.{timeIs, keysIs, line, rowLines, listText, refusedText, isLent, walkedText, reportText, walkedCells, reportCells}
 use Rattle.report.specs.Written.{Written, Alone, Reported}

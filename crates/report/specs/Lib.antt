@@ -1,6 +1,9 @@
+-- What a reader must believe.
 pub mod Text
 pub mod Written
+-- Laws of it, and that no second answer satisfies a contract.
 pub mod Laws
 pub mod Alone
 pub mod Unique
+-- Examples, computed.
 pub mod Examples

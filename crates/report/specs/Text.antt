@@ -13,7 +13,7 @@ use Rattle.rules.specs.Lists.{listAt}
 use Rattle.rules.specs.Recovery.{walk, survivors}
 use Rattle.decimal.specs.Digits.{digits}
 use Rattle.compact.specs.Compact.{compacted}
-use Rattle.journal_store.specs.Recover.{journalBytes, surviving}
+use Rattle.journal_store.specs.Contracts.{journalBytes, surviving}
 
 -- the one byte that ends a line
 abbrev pub newline : List ℕ

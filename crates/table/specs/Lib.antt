@@ -1,3 +1,5 @@
+-- What a reader must believe.
 pub mod Table
+-- Laws of it, and that no second answer satisfies a contract.
 pub mod Laws
 pub mod Unique

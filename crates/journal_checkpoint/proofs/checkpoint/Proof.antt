@@ -20,7 +20,8 @@ use Rattle.values.specs.Pass.{Lent}
 use Rattle.journal_store.specs.declared.Head.{Head}
 use Rattle.journal_store.specs.declared.Outcome.{Outcome}
 use Rattle.journal_store.specs.Shape.{isShaped, rowRoom, meaning, Shaped, shape}
-use Rattle.journal_store.specs.Checkpoint.{Checkpointed, Settled, checkpoint-bad, checkpoint-refused, checkpoint-full, checkpoint-written}
+use Rattle.journal_store.specs.Contracts.{Checkpointed, Settled}
+use Rattle.journal_store.specs.Laws.{checkpoint-bad, checkpoint-refused, checkpoint-full, checkpoint-written}
 use borrow.Author.Needs.{needs}
 use Rattle.journal_checkpoint.proofs.checkpoint.Statement.{statement}
 use Rattle.journal_checkpoint.proofs.checkpoint.Tie as tie

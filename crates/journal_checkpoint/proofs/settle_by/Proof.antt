@@ -11,7 +11,7 @@ use Rattle.rules.specs.Columns.{Filled}
 use Rattle.table.specs.Table.{Next}
 use Rattle.table.specs.Laws.{next-within, next-copied}
 use Rattle.journal_store.specs.Shape.{rowRoom}
-use Rattle.journal_store.specs.Checkpoint.{Settled}
+use Rattle.journal_store.specs.Contracts.{Settled}
 use borrow.Author.Needs.{needs}
 use Rattle.journal_checkpoint.proofs.settle_by.Statement.{statement}
 use Rattle.journal_checkpoint.proofs.settle_by.Tie as tie

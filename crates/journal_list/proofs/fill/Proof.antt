@@ -18,7 +18,8 @@ use Rattle.table.specs.Laws.{next-within, next-filled, next-copied}
 use Rattle.listing.specs.Settled.{Cells}
 use Rattle.journal_store.specs.declared.Head.{Head}
 use Rattle.journal_store.specs.Shape.{meaning, Shaped}
-use Rattle.journal_store.specs.List.{isListShaped, ListedBy, list-shape, list-paired, list-room, list-rows, list-filled, list-refused}
+use Rattle.journal_store.specs.Contracts.{isListShaped, ListedBy}
+use Rattle.journal_store.specs.Laws.{list-shape, list-paired, list-room, list-rows, list-filled, list-refused}
 use borrow.Author.Needs.{needs}
 use Rattle.journal_list.proofs.fill.Statement.{statement}
 use Rattle.journal_list.proofs.fill.Tie as tie

@@ -12,7 +12,8 @@ use Rattle.answer.specs.declared.Refusal.the-variants.{TooOld, Future}
 use Rattle.answer.specs.Reply.{refused}
 use Rattle.journal_store.specs.declared.Head.{Head}
 use Rattle.journal_store.specs.Shape.{meaning}
-use Rattle.journal_store.specs.List.{isListShaped, ListedBy, list-shape, list-old, list-future, list-bad, list-refused}
+use Rattle.journal_store.specs.Contracts.{isListShaped, ListedBy}
+use Rattle.journal_store.specs.Laws.{list-shape, list-old, list-future, list-bad, list-refused}
 use borrow.Author.Needs.{needs}
 use Rattle.journal_list.proofs.list.Statement.{statement}
 use Rattle.journal_list.proofs.list.Tie as tie

@@ -6,7 +6,8 @@ use borrow.Author.Tests.{not-true, not-false}
 use lib.ListN.{length}
 use Rattle.rules.specs.Recovery.{accepts}
 use Rattle.walk.specs.Judged.{walk-whole}
-use Rattle.journal_store.specs.Recover.{surviving, recoverable, recover-bad, recover-refused, recover-done}
+use Rattle.journal_store.specs.Contracts.{surviving}
+use Rattle.journal_store.specs.Laws.{recoverable, recover-bad, recover-refused, recover-done}
 use borrow.Author.Needs.{needs}
 use native.Mathlib.Omega.{arith}
 use denote.Ref.{now}

@@ -5,7 +5,7 @@ use lib.ListN.{length}
 use Rattle.rules.specs.Calls.{Abort}
 use Rattle.answer.specs.Reply.{ofDone}
 use Rattle.journal_store.specs.Shape.{shape}
-use Rattle.journal_store.specs.Write.{bad-shape, has-room, wrote}
+use Rattle.journal_store.specs.Laws.{bad-shape, has-room, wrote}
 use borrow.Author.Needs.{needs}
 use denote.Ref.{now}
 use Rattle.journal_store.proofs.abort.abort.Statement.{statement}

@@ -5,7 +5,8 @@ use lib.ListN.{length}
 use Rattle.rules.specs.Calls.{Begin, answer, nextOf, Store}
 use Rattle.answer.specs.Reply.{ofBegun, told, begunNumber, Reply}
 use Rattle.journal_store.specs.Shape.{shape}
-use Rattle.journal_store.specs.Write.{bad-shape, has-room, wrote}
+use Rattle.journal_store.specs.Contracts.{decided}
+use Rattle.journal_store.specs.Laws.{bad-shape, has-room, wrote}
 use mathlib.Core.Path.{ap}
 use mathlib.Core.Bool.{Bool, true}
 use Prim.Native.Nat.{ℕ}
@@ -21,7 +22,6 @@ use Rattle.answer.specs.declared.Begun.{Begun}
 use Rattle.answer.specs.declared.Begun.the-variants.{Number, Refused}
 use Rattle.answer.specs.Laws.{refused-some}
 use Rattle.journal_store.specs.Shape.{roomOf, meaning}
-use Rattle.journal_store.specs.Write.{decided}
 use Rattle.rules.specs.Bools.{not-both}
 use borrow.Author.Needs.{needs}
 use denote.Ref.{now}

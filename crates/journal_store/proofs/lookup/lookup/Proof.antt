@@ -3,7 +3,8 @@ use mathlib.Core.Path.{_≡_, sym, _∙_}
 use borrow.Author.Tests.{not-true, not-false}
 use lib.ListN.{length}
 use Rattle.journal_store.specs.Shape.{shape}
-use Rattle.journal_store.specs.Read.{lookupDecided, reply-bad, reply-good}
+use Rattle.journal_store.specs.Contracts.{lookupDecided}
+use Rattle.journal_store.specs.Laws.{reply-bad, reply-good}
 use borrow.Author.Needs.{needs}
 use denote.Ref.{now}
 use Rattle.journal_store.proofs.lookup.lookup.Statement.{statement}

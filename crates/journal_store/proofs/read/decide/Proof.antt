@@ -9,7 +9,7 @@ use Rattle.rules.specs.Columns.{firstRows}
 use Rattle.record.specs.Bytes.{newest}
 use Rattle.journal.specs.declared.transactions.Trace.{Trace}
 use Rattle.journal_store.specs.Shape.{meaning}
-use Rattle.journal_store.specs.Read.{read-unknown, read-key, read-value}
+use Rattle.journal_store.specs.Laws.{read-unknown, read-key, read-value}
 use borrow.Author.Needs.{needs}
 use denote.Ref.{now}
 use Rattle.journal_store.proofs.read.decide.Statement.{statement}

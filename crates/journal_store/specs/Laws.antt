@@ -1,0 +1,294 @@
+-- What each way out of a call has to show for its contract. Assumes nothing.
+use mathlib.Core.Path.{_≡_, sym, ap, _∙_, refl}
+use mathlib.Core.Bool.{Bool, true, false, cond, _&&_, not}
+use mathlib.Core.List.{List, _++_}
+use Prim.Native.Nat.{ℕ, _+_, _*_, _≤_, _/_, _<_}
+use native.Mathlib.Nat.{min-le-right, min-le-left}
+use native.Mathlib.Omega.{arith}
+use lib.Dec.{eqb, ltb, leb}
+use lib.ListN.{length, drop, take}
+use borrow.Author.Tests.{eqb-true, lt-ltb, le-ltb, eq-eqb, ne-eqb, le-leb, lt-leb, leb-true}
+use Rattle.rules.specs.declared.Record.{Record}
+use Rattle.rules.specs.Bools.{split, and-left, and-right}
+use Rattle.rules.specs.Kinds.{recordBytes}
+use Rattle.rules.specs.Passed.{fitting}
+use Rattle.rules.specs.Calls.{Store, Call, refusal, need, answer, recordOf, gives, lastOf, runsIn, valueOf, readOf, listOf, listAnswer, withRoom, checkpointRefusal, checkpointAnswer}
+use Rattle.rules.specs.declared.Value.{Value}
+use Rattle.rules.specs.declared.Value.the-variants.{Absent, Present}
+use Rattle.rules.specs.Lists.{rowKeys}
+use Rattle.rules.specs.Columns.{rowValues, Filled}
+use Rattle.rules.specs.Checkpoints.{held, kept}
+use Rattle.rules.specs.Limits.{mostRows}
+use Rattle.rules.specs.declared.Walked.{Walked}
+use Rattle.rules.specs.declared.Walked.the-variants.{Whole, BadAt}
+use Rattle.rules.specs.Recovery.{walk, survivors}
+use Rattle.record.specs.Bytes.{appended}
+use Rattle.record.specs.Laws.{length-newest}
+use Rattle.answer.specs.declared.Refusal.the-variants.{BadShape, NoRoom}
+use Rattle.answer.specs.Reply.{Reply, refused, told, accepted, numberOf, placeOf}
+use Rattle.answer.specs.Laws.{after-refused, refused-some}
+use Rattle.answer.specs.declared.Refusal.{Refusal}
+use Rattle.compact.specs.Compact.{compacted}
+use Rattle.journal_store.specs.declared.Head.{Head}
+use Rattle.journal_store.specs.Shape.{grown, isShaped, roomOf, meaning, Shaped, shape, rowRoom}
+use Rattle.journal_store.specs.Contracts.{Put, decided, number, Wrote, readDecided, lookupDecided, shapedReply, listDecided, isListShaped, listNumber, ListedBy, checkpointNumber, checkpointHead, Checkpointed, risingKeys, journalBytes, isRecoverable, surviving, recoverReply, recoveredHead, Recovered, Recoverable}
+
+-- an accepted call has the room that it needs
+pub room-left : (room : ℕ) (c : Call) (s : Store) → answer room c s ≡ 0 → length (s .records) + need c s ≤ room
+room-left room c s h = fitting (refusal c s) (length (s .records) + need c s) room h .1
+
+pub need-some : (c : Call) (s : Store) → 1 ≤ need c s
+need-some (Rattle.rules.specs.Calls.Begin t) s = omega arith
+need-some (Rattle.rules.specs.Calls.Update n k e) s = omega arith
+need-some (Rattle.rules.specs.Calls.Abort n) s = omega arith
+need-some (Rattle.rules.specs.Calls.Commit n t) s = omega arith
+
+module _ (c : Call) (h : Head) (keys values j : List ℕ) where
+  -- a store of bad shape: refused, and nothing changes
+  pub bad-shape : isShaped h (length keys) (length values) (length j) ≡ false → Wrote c h keys values j (refused BadShape) h j
+  bad-shape e =
+      let q : number c h keys values j ≡ 1 = ap (λ (b : Bool). cond b (answer (roomOf (length j)) c (meaning h keys values j)) 1) e in
+      record {
+        reply = sym (ap (λ (n : ℕ). told n (gives c (meaning h keys values j))) q);
+        headed = after-refused BadShape (number c h keys values j) (grown h) h q;
+        cells = after-refused BadShape (number c h keys values j) (appended j (h .journal .used) (recordOf c (meaning h keys values j))) j q;
+      }
+
+  module _ (shaped : isShaped h (length keys) (length values) (length j) ≡ true) (a : Reply)
+      (d : a ≡ decided c (roomOf (length j)) (meaning h keys values j)) (accepted : Bool) (y : accepted ≡ eqb (a .number) 0) where
+    counted : number c h keys values j ≡ answer (roomOf (length j)) c (meaning h keys values j)
+    counted = ap (λ (b : Bool). cond b (answer (roomOf (length j)) c (meaning h keys values j)) 1) shaped
+
+    accepts : accepted ≡ eqb (number c h keys values j) 0
+    accepts = y ∙ ap (λ (r : Reply). eqb (r .number) 0) d ∙ ap (λ (n : ℕ). eqb n 0) (sym counted)
+
+    -- an accepted call has room for its record
+    pub has-room : accepted ≡ true → (h .journal .used ≤ 2048) × (h .journal .used * recordBytes + recordBytes ≤ length j)
+    has-room e =
+        let z : number c h keys values j ≡ 0 = eqb-true (number c h keys values j) 0 (sym accepts ∙ e) in
+        let l = room-left (roomOf (length j)) c (meaning h keys values j) (sym counted ∙ z) in
+        let n = length-newest (h .journal .used) j in
+        let k = need-some c (meaning h keys values j) in
+        (omega (arith, min-le-left 2048 (length j / recordBytes)), omega (arith, min-le-right 2048 (length j / recordBytes)))
+
+    -- what was decided and put is what the call writes
+    pub wrote : (r : Record) (head : Head) (exit : List ℕ) → (accepted ≡ true → r ≡ recordOf c (meaning h keys values j))
+        → Put h j accepted r head exit → Wrote c h keys values j a head exit
+    wrote r head exit rec p =
+        record {
+          reply = d ∙ ap (λ (n : ℕ). told n (gives c (meaning h keys values j))) (sym counted);
+          headed = p .headed ∙ ap (λ (b : Bool). cond b (grown h) h) accepts;
+          cells =
+              p .cells
+              ∙ split accepted
+              (λ e. ap (λ (b : Bool). cond b (appended j (h .journal .used) r) j) e ∙ ap (appended j (h .journal .used)) (rec e)
+              ∙ ap (λ (b : Bool). cond b (appended j (h .journal .used) (recordOf c (meaning h keys values j))) j) (sym e ∙ accepts))
+              (λ e. ap (λ (b : Bool). cond b (appended j (h .journal .used) r) j) e
+              ∙ ap (λ (b : Bool). cond b (appended j (h .journal .used) (recordOf c (meaning h keys values j))) j) (sym e ∙ accepts));
+        }
+
+-- a store of bad shape, and one of good shape
+module _ (h : Head) (keys values j : List ℕ) (decided : Store → Reply) where
+  pub reply-bad : isShaped h (length keys) (length values) (length j) ≡ false → record { number = 1; value = Absent } ≡ shapedReply h keys values j decided
+  reply-bad e = rw e
+
+  pub reply-good : (r : Reply) → isShaped h (length keys) (length values) (length j) ≡ true → r ≡ decided (meaning h keys values j)
+      → r ≡ shapedReply h keys values j decided
+  reply-good r e d = rw e d
+
+-- the ways out of a read
+module _ (n k : ℕ) (s : Store) (b : Bool) (e : b ≡ runsIn n s) where
+  pub read-unknown : b ≡ false → told 2 (readOf n k s) ≡ readDecided n k s
+  read-unknown f = rw (sym e ∙ f)
+
+  module _ (f : b ≡ true) where
+    pub read-key : k ≡ 0 → told 3 (readOf n k s) ≡ readDecided n k s
+    read-key z = rw (sym e ∙ f, eq-eqb k 0 z)
+
+    pub read-value : (k ≡ 0 → ⊥) → (v : Value) → v ≡ readOf n k s → accepted v ≡ readDecided n k s
+    read-value z v g = rw (sym e ∙ f, ne-eqb k 0 z, g)
+
+-- the ways out of a lookup
+module _ (k t : ℕ) (s : Store) where
+  pub lookup-key : k ≡ 0 → told 3 (valueOf k t s) ≡ lookupDecided k t s
+  lookup-key z = rw (eq-eqb k 0 z)
+
+  module _ (z : k ≡ 0 → ⊥) where
+    pub lookup-old : t < s .low → told 4 (valueOf k t s) ≡ lookupDecided k t s
+    lookup-old a = rw (ne-eqb k 0 z, lt-ltb t (s .low) a)
+
+    module _ (a : s .low ≤ t) (f : Bool) (e : f ≡ ltb (lastOf s) t) where
+      pub lookup-future : f ≡ true → told 5 (valueOf k t s) ≡ lookupDecided k t s
+      lookup-future b = rw (ne-eqb k 0 z, le-ltb t (s .low) a, sym e ∙ b)
+
+      pub lookup-value : f ≡ false → (v : Value) → v ≡ valueOf k t s → accepted v ≡ lookupDecided k t s
+      lookup-value b v g = rw (ne-eqb k 0 z, le-ltb t (s .low) a, sym e ∙ b, g)
+
+-- what a good shape says
+module _ (h : Head) (keys values bytes listed contents : ℕ) (e : isListShaped h keys values bytes listed contents ≡ true) where
+  pub list-shape : Shaped h keys values bytes
+  list-shape = shape h keys values bytes (and-right (eqb listed contents) (isShaped h keys values bytes) e)
+
+  pub list-paired : listed ≡ contents
+  list-paired = eqb-true listed contents (and-left (eqb listed contents) (isShaped h keys values bytes) e)
+
+-- the ways out of the tests
+module _ (room t : ℕ) (s : Store) where
+  pub list-old : t < s .low → told 4 (Present (length (listOf t s))) ≡ listDecided room t s
+  list-old a = rw (lt-ltb t (s .low) a)
+
+  module _ (a : s .low ≤ t) (f : Bool) (e : f ≡ ltb (lastOf s) t) where
+    pub list-future : f ≡ true → told 5 (Present (length (listOf t s))) ≡ listDecided room t s
+    list-future b = rw (le-ltb t (s .low) a, sym e ∙ b)
+
+    module _ (b : f ≡ false) (n : ℕ) (g : n ≡ length (listOf t s)) where
+      list-number : (m : ℕ) → listAnswer room t s ≡ m → told m (Present (length (listOf t s))) ≡ listDecided room t s
+      list-number m q = sym (ap (λ (x : ℕ). told x (Present (length (listOf t s)))) q)
+
+      pub list-room : room < n → told 12 (Present (length (listOf t s))) ≡ listDecided room t s
+      list-room h = list-number 12 (rw (le-ltb t (s .low) a, sym e ∙ b, ← g, lt-leb n room h))
+
+      pub list-rows : n ≤ room → accepted (Present n) ≡ listDecided room t s
+      list-rows h = ap (λ (x : ℕ). accepted (Present x)) g ∙ list-number 0 (rw (le-ltb t (s .low) a, sym e ∙ b, ← g, le-leb n room h))
+
+module _ (h : Head) (keys values j : List ℕ) (t : ℕ) (listed contents : List ℕ) where
+  -- a bad shape: refused, and nothing changes
+  pub list-bad : isListShaped h (length keys) (length values) (length j) (length listed) (length contents) ≡ false
+      → ListedBy h keys values j t listed contents (refused BadShape) listed contents
+  list-bad e =
+      let s = meaning h keys values j in
+      let q : listNumber h keys values j t (length listed) (length contents) ≡ 1 = ap (λ (b : Bool). cond b (listAnswer (length listed) t s) 1) e in
+      record {
+        reply = sym (ap (λ (n : ℕ). told n (Present (length (listOf t s)))) q);
+        keys-column = after-refused BadShape (listNumber h keys values j t (length listed) (length contents)) (rowKeys (listOf t s) ++ drop (length (listOf t s)) listed) listed q;
+        values-column = after-refused BadShape (listNumber h keys values j t (length listed) (length contents)) (rowValues (listOf t s) ++ drop (length (listOf t s)) contents) contents q;
+      }
+
+  module _ (shaped : isListShaped h (length keys) (length values) (length j) (length listed) (length contents) ≡ true) (a : Reply)
+      (d : a ≡ listDecided (length listed) t (meaning h keys values j)) where
+    list-counted : listNumber h keys values j t (length listed) (length contents) ≡ a .number
+    list-counted = ap (λ (b : Bool). cond b (listAnswer (length listed) t (meaning h keys values j)) 1) shaped ∙ sym (ap (λ (r : Reply). r .number) d)
+
+    replied : a ≡ told (listNumber h keys values j t (length listed) (length contents)) (Present (length (listOf t (meaning h keys values j))))
+    replied = d ∙ ap (λ (n : ℕ). told n (Present (length (listOf t (meaning h keys values j))))) (sym (ap (λ (r : Reply). r .number) d) ∙ sym list-counted)
+
+    pub list-filled : (listed' contents' : List ℕ) → eqb (a .number) 0 ≡ true → Filled (listOf t (meaning h keys values j)) listed contents listed' contents'
+        → ListedBy h keys values j t listed contents a listed' contents'
+    list-filled listed' contents' e f =
+        let z : eqb (listNumber h keys values j t (length listed) (length contents)) 0 ≡ true = ap (λ (n : ℕ). eqb n 0) list-counted ∙ e in
+        record { reply = replied; keys-column = rw z (f .keys-column); values-column = rw z (f .values-column) }
+
+    pub list-refused : eqb (a .number) 0 ≡ false → ListedBy h keys values j t listed contents a listed contents
+    list-refused e =
+        let z : eqb (listNumber h keys values j t (length listed) (length contents)) 0 ≡ false = ap (λ (n : ℕ). eqb n 0) list-counted ∙ e in
+        record { reply = replied; keys-column = rw z; values-column = rw z }
+
+-- the ways out of the tests before the room
+module _ (t : ℕ) (s : Store) where
+  pub checkpoint-old : t < s .low → told 4 Absent ≡ told (checkpointRefusal t s) Absent
+  checkpoint-old a = rw (lt-ltb t (s .low) a)
+
+  module _ (a : s .low ≤ t) (i : Bool) (e : i ≡ ltb (lastOf s) t) where
+    pub checkpoint-future : i ≡ true → told 5 Absent ≡ told (checkpointRefusal t s) Absent
+    checkpoint-future b = rw (le-ltb t (s .low) a, sym e ∙ b)
+
+    module _ (b : i ≡ false) (d : Bool) (g : d ≡ held t (s .records)) where
+      pub checkpoint-held : d ≡ true → told 9 Absent ≡ told (checkpointRefusal t s) Absent
+      checkpoint-held f = rw (le-ltb t (s .low) a, sym e ∙ b, sym g ∙ f)
+
+      pub checkpoint-clear : d ≡ false → told 0 Absent ≡ told (checkpointRefusal t s) Absent
+      checkpoint-clear f = rw (le-ltb t (s .low) a, sym e ∙ b, sym g ∙ f)
+
+module _ (t : ℕ) (h : Head) (keys values j : List ℕ) where
+  -- a call that gets a refusal's number changes nothing
+  unchanged : (x : Refusal) → placeOf x ≡ Absent → checkpointNumber t h keys values j ≡ numberOf x
+      → Checkpointed t h keys values j (refused x) h keys values j
+  unchanged x p q =
+      let s = meaning h keys values j in
+      let n = checkpointNumber t h keys values j in
+      record {
+        reply = rw (q, p, refused-some x);
+        headed = after-refused x n (checkpointHead t s) h q;
+        keys-column = after-refused x n (rowKeys (listOf t s) ++ drop (length (listOf t s)) keys) keys q;
+        values-column = after-refused x n (rowValues (listOf t s) ++ drop (length (listOf t s)) values) values q;
+        cells = after-refused x n (compacted (kept t (s .records)) (h .journal .used * recordBytes) j) j q;
+      }
+
+  -- a store of bad shape
+  pub checkpoint-bad : isShaped h (length keys) (length values) (length j) ≡ false
+      → Checkpointed t h keys values j (refused BadShape) h keys values j
+  checkpoint-bad e =
+      unchanged BadShape refl (ap (λ (b : Bool). cond b (checkpointAnswer (rowRoom (length keys)) t (meaning h keys values j)) 1) e)
+
+  module _ (shaped : isShaped h (length keys) (length values) (length j) ≡ true) (a : Reply)
+      (d : a ≡ told (checkpointRefusal t (meaning h keys values j)) Absent) where
+    turned : checkpointRefusal t (meaning h keys values j) ≡ a .number
+    turned = sym (ap (λ (r : Reply). r .number) d)
+
+    answered : checkpointNumber t h keys values j ≡ withRoom (a .number) (length (listOf t (meaning h keys values j))) (rowRoom (length keys))
+    answered =
+        ap (λ (b : Bool). cond b (checkpointAnswer (rowRoom (length keys)) t (meaning h keys values j)) 1) shaped
+        ∙ ap (λ (n : ℕ). withRoom n (length (listOf t (meaning h keys values j))) (rowRoom (length keys))) turned
+
+    -- a test before the room refused
+    pub checkpoint-refused : eqb (a .number) 0 ≡ false → Checkpointed t h keys values j a h keys values j
+    checkpoint-refused e =
+        let q : checkpointNumber t h keys values j ≡ a .number = rw e at answered in
+        let z : eqb (checkpointNumber t h keys values j) 0 ≡ false = rw q e in
+        record {
+          reply = d ∙ ap (λ (n : ℕ). told n Absent) (turned ∙ sym q);
+          headed = rw z;
+          keys-column = rw z;
+          values-column = rw z;
+          cells = rw z;
+        }
+
+    -- none did, and the list has n rows
+    module _ (e : eqb (a .number) 0 ≡ true) (n : ℕ) (q : n ≡ length (listOf t (meaning h keys values j))) where
+      pub checkpoint-full : rowRoom (length keys) < n → Checkpointed t h keys values j (refused NoRoom) h keys values j
+      checkpoint-full l = unchanged NoRoom refl (answered ∙ rw (e, ← q, lt-leb n (rowRoom (length keys)) l))
+
+      pub checkpoint-written : (head : Head) (keys' values' exit : List ℕ) → n ≤ rowRoom (length keys)
+          → head ≡ checkpointHead t (meaning h keys values j) → Filled (listOf t (meaning h keys values j)) keys values keys' values'
+          → exit ≡ compacted (kept t (meaning h keys values j .records)) (h .journal .used * recordBytes) j
+          → Checkpointed t h keys values j (accepted Absent) head keys' values' exit
+      checkpoint-written head keys' values' exit l f g i =
+          let z : checkpointNumber t h keys values j ≡ 0 = answered ∙ rw (e, ← q, le-leb n (rowRoom (length keys)) l) in
+          record { reply = rw z; headed = rw z f; keys-column = rw z (g .keys-column); values-column = rw z (g .values-column); cells = rw z i }
+
+pub recoverable : (h : Head) (keys : List ℕ) (values bytes survived : ℕ) → isRecoverable h keys values bytes survived ≡ true → Recoverable bytes survived
+recoverable h keys values bytes survived e =
+    let a = leb (h .base .rows) mostRows in
+    let b = leb (h .base .rows) (length keys) in
+    let c = eqb (length keys) values in
+    let d = leb survived journalBytes in
+    let f = leb survived bytes in
+    let g = not (eqb (h .floor) 0) && risingKeys 0 (take (h .base .rows) keys) in
+    let e3 = and-right c (d && (f && g)) (and-right b (c && (d && (f && g))) (and-right a (b && (c && (d && (f && g)))) e)) in
+    let most = leb-true survived journalBytes (and-left d (f && g) e3) in
+    record {
+      few = omega arith;
+      there = omega arith;
+      within = leb-true survived bytes (and-left f g (and-right d (f && g) e3));
+    }
+
+module _ (h : Head) (keys values j : List ℕ) (survived : ℕ) where
+  -- refused with a number other than 0: nothing changes
+  left : (a : Reply) → recoverReply h keys values j survived ≡ a → eqb (a .number) 0 ≡ false → Recovered h keys values j survived a h j
+  left a e f =
+      let z : eqb (recoverReply h keys values j survived .number) 0 ≡ false = ap (λ (r : Reply). eqb (r .number) 0) e ∙ f in
+      record { reply = sym e; headed = rw z; cells = rw z }
+
+  pub recover-bad : isRecoverable h keys (length values) (length j) survived ≡ false → Recovered h keys values j survived (record { number = 1; value = Absent }) h j
+  recover-bad e = left (record { number = 1; value = Absent }) (rw e) refl
+
+  module _ (e : isRecoverable h keys (length values) (length j) survived ≡ true) (w : Walked) (d : w ≡ walk (h .low) (surviving survived j)) where
+    pub recover-refused : (i : ℕ) → w ≡ BadAt i → Recovered h keys values j survived (record { number = 13; value = Present i }) h j
+    recover-refused i f = left (record { number = 13; value = Present i }) (rw (e, sym d ∙ f)) refl
+
+    pub recover-done : (head : Head) (exit : List ℕ) → w ≡ Whole → head ≡ recoveredHead h (surviving survived j)
+        → exit ≡ compacted (survivors (surviving survived j)) survived j → Recovered h keys values j survived (accepted Absent) head exit
+    recover-done head exit f g i =
+        let q : recoverReply h keys values j survived ≡ accepted Absent = rw (e, sym d ∙ f) in
+        let z : eqb (recoverReply h keys values j survived .number) 0 ≡ true = ap (λ (r : Reply). eqb (r .number) 0) q in
+        record { reply = sym q; headed = rw z g; cells = rw z i }
