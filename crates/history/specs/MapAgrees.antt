@@ -17,13 +17,13 @@ use Rattle.rules.specs.Kinds.{isBegin, isUpdate, isCommit, isEnd, begun, commit
 use Rattle.rules.specs.Effects.{orZero, applied, effectOf, writes, effects}
 use Rattle.rules.specs.Transactions.{any, of, runs, snapshot, wrote, keysWritten, running}
 use Rattle.rules.specs.Times.{last, above}
-use Rattle.rules.specs.Values.{Row, value, readIn}
-use Rattle.rules.specs.Lists.{among, rowKeys}
+use Rattle.rules.specs.Values.{value, readIn}
+use Rattle.rules.specs.Lists.{among}
 use Rattle.rules.specs.Conflicts.{metOn, committedAfter, touched, clashes, conflict}
 use Rattle.rules.specs.Meeting.{wrote-reads, touched-same}
 use Rattle.rules.specs.Bools.{split, and-left, and-right, and-both, or-right, or-none-left, or-none-right, not-both, implies-false, and-false}
 use Rattle.rules.specs.Running.{not-ended, running-skip, running-end, runs-skip, touched-skip, touched-open, wrote-among}
-use Rattle.slot.specs.Places.{Place, free, taken, hasKey, runningValue, note, placeOf, openIn, amend, occupied}
+use Rattle.slot.specs.Places.{Note, noteKeys, Place, free, taken, hasKey, runningValue, note, placeOf, openIn, amend, occupied}
 use Rattle.versions.specs.declared.Version.{Version}
 use Rattle.versions.specs.Versions.{at, later, thin}
 use Rattle.map_store.specs.Meaning.{MapStore, current, rowsAt, updatedPlace, stamp}
@@ -37,7 +37,7 @@ use Rattle.versions.specs.Versions as versions
 -- what a place says of its transaction
 pub data Says (all : List Record) (n : ℕ) : Place → Type 0 where
   idle : runs n all ≡ false → Says all n free
-  busy : (s : ℕ) (rows : List Row) → runs n all ≡ true → s ≡ snapshot n all → rowKeys rows ≡ keysWritten (of n all)
+  busy : (s : ℕ) (rows : List Note) → runs n all ≡ true → s ≡ snapshot n all → noteKeys rows ≡ keysWritten (of n all)
       → ((k : ℕ) → 1 ≤ k → wrote k (of n all) ≡ true → runningValue k rows ≡ readIn [] all n (snapshot n all) k) → Says all n (taken n s rows)
 
 -- the map has the low, last and next number of the journal, a place for each running transaction, its values and its conflicts
@@ -238,7 +238,7 @@ module _ (m : MapStore) (low : ℕ) (all : List Record) (h : Agree m low all) (g
             (ordered-stamp t (m .last) rows (m .versions) (h .orders) (omega arith)))
 
   -- the running value is rule 3.5's
-  pub current-is : (n k s : ℕ) (rows : List Row) → 1 ≤ k → runs n all ≡ true → s ≡ snapshot n all → rowKeys rows ≡ keysWritten (of n all)
+  pub current-is : (n k s : ℕ) (rows : List Note) → 1 ≤ k → runs n all ≡ true → s ≡ snapshot n all → noteKeys rows ≡ keysWritten (of n all)
       → (wrote k (of n all) ≡ true → runningValue k rows ≡ readIn [] all n (snapshot n all) k) → current k s rows (m .versions) ≡ readIn [] all n (snapshot n all) k
   current-is n k s rows i u v keys f =
       let hk : hasKey k rows ≡ wrote k (of n all) = has-among k rows ∙ ap (among k) keys ∙ wrote-among k (of n all) in

@@ -10,15 +10,15 @@ use Rattle.rules.specs.declared.Record.{Record}
 use Rattle.rules.specs.declared.Effect.{Effect}
 use Rattle.rules.specs.Kinds.{isUpdate}
 use Rattle.rules.specs.Transactions.{any, of, runs, snapshot, wrote, keysWritten, mayWrite}
-use Rattle.rules.specs.Values.{Row, readIn}
-use Rattle.rules.specs.Lists.{among, rowKeys}
+use Rattle.rules.specs.Values.{readIn}
+use Rattle.rules.specs.Lists.{among}
 use Rattle.rules.specs.Conflicts.{touched}
 use Rattle.rules.specs.Checkpoints.{held}
 use Rattle.rules.specs.Calls.{Store, nextOf, conflictIn, updated, Begin, Update, Abort, Commit, refusal}
 use Rattle.rules.specs.Bools.{split, or-right, not-both}
-use Rattle.rules.specs.Columns.{length-keys}
+use Rattle.slot.specs.RowLaws.{length-keys}
 use Rattle.rules.specs.Running.{wrote-among}
-use Rattle.slot.specs.Places.{Place, taken, placeOf, holds}
+use Rattle.slot.specs.Places.{Note, noteKeys, Place, taken, placeOf, holds}
 use Rattle.versions.specs.declared.Version.{Version}
 use Rattle.versions.specs.Versions.{at, later}
 use Rattle.map_store.specs.Meaning.{MapStore, clash, readAt, abortRefusal, updateRefusal, commitRefusal}
@@ -59,7 +59,7 @@ any-keys p (r ∷ own) =
     (λ u. rw u (any-keys p own))
 
 -- a clash is a later version of some key
-clash-keys : (s : ℕ) (rows : List Row) (vs : List Version) (p : ℕ → Bool) → ((k : ℕ) → later s k vs ≡ p k) → clash s rows vs ≡ anyOf p (rowKeys rows)
+clash-keys : (s : ℕ) (rows : List Note) (vs : List Version) (p : ℕ → Bool) → ((k : ℕ) → later s k vs ≡ p k) → clash s rows vs ≡ anyOf p (noteKeys rows)
 clash-keys s [] vs p h = refl
 clash-keys s (r ∷ rows) vs p h = rw (h (r .key), clash-keys s rows vs p h)
 
@@ -69,8 +69,8 @@ module _ (m : MapStore) (h : Store) (a : Agree m (h .low) (h .records)) (g : San
   next-same = rw (one, a .nexts) (let z = g .capped in omega arith)
 
   -- the map's conflict is rule 3.6's
-  clash-same : (n s : ℕ) (rows : List Row) → runs n (h .records) ≡ true → s ≡ snapshot n (h .records)
-      → rowKeys rows ≡ keysWritten (of n (h .records)) → clash s rows (m .versions) ≡ conflictIn n h
+  clash-same : (n s : ℕ) (rows : List Note) → runs n (h .records) ≡ true → s ≡ snapshot n (h .records)
+      → noteKeys rows ≡ keysWritten (of n (h .records)) → clash s rows (m .versions) ≡ conflictIn n h
   clash-same n s rows u v keys =
       let z = snapshot n (h .records) in
       rw v
@@ -81,12 +81,12 @@ module _ (m : MapStore) (h : Store) (a : Agree m (h .low) (h .records)) (g : San
 
   -- a snapshot, by its place
   snap-told : (T n : ℕ) (p : Place) → Says (h .records) n p → runs n (h .records) ≡ true
-      → ((s : ℕ) (rows : List Row) → p ≡ taken n s rows → T ≤ s) → T ≤ snapshot n (h .records)
+      → ((s : ℕ) (rows : List Note) → p ≡ taken n s rows → T ≤ s) → T ≤ snapshot n (h .records)
   snap-told T n p (idle u) r f = not-both (runs n (h .records)) r u
   snap-told T n p (busy s rows u v keys w) r f = rw (← v) (f s rows refl)
 
   -- a place, by its snapshot
-  place-told : (T n : ℕ) (p : Place) → Says (h .records) n p → (s : ℕ) (rows : List Row) → p ≡ taken n s rows
+  place-told : (T n : ℕ) (p : Place) → Says (h .records) n p → (s : ℕ) (rows : List Note) → p ≡ taken n s rows
       → (runs n (h .records) ≡ true → T ≤ snapshot n (h .records)) → T ≤ s
   place-told T n p (idle u) s rows e f = let z : _≡_ {A = ℕ} 0 1 = cc in absurd (omega arith)
   place-told T n p (busy s2 rows2 u v keys w) s rows e f = let z : s2 ≡ s = cc in let y = f u in omega (arith, v, z, y)

@@ -12,7 +12,7 @@ use Rattle.rules.specs.Passed.{passed}
 use Rattle.rules.specs.Bools.{not-both}
 use Rattle.rules.specs.Transactions.{of, runs, keysWritten}
 use Rattle.rules.specs.Lists.{among}
-use Rattle.rules.specs.Columns.{length-keys}
+use Rattle.slot.specs.RowLaws.{length-keys}
 use Rattle.rules.specs.Calls.{Call, Begin, Update, Abort, Commit}
 use Rattle.rules.specs.Listing.{lists-unique}
 use Rattle.slot.specs.Places.{Place, placeOf}

@@ -11,27 +11,26 @@ use Rattle.rules.specs.declared.Record.{Record}
 use Rattle.rules.specs.declared.Value.the-variants.{Present}
 use Rattle.rules.specs.Kinds.{isUpdate}
 use Rattle.rules.specs.Transactions.{wrote, keysWritten}
-use Rattle.rules.specs.Values.{Row}
-use Rattle.rules.specs.Lists.{among, rowKeys}
+use Rattle.rules.specs.Lists.{among}
 use Rattle.rules.specs.Bools.{split, and-left, and-right, or-none-left, or-none-right, not-both, or-false}
 use Rattle.rules.specs.Running.{wrote-among}
-use Rattle.slot.specs.Places.{Place, free, taken, hasKey, runningValue, reset, note, placeOf, openIn, amend, occupied, holds}
+use Rattle.slot.specs.Places.{Note, noteKeys, Place, free, taken, hasKey, runningValue, reset, note, placeOf, openIn, amend, occupied, holds}
 use Rattle.map_store.specs.Meaning.{firsts}
 use Rattle.history.specs.MapVersions.{or-absent, first-has}
 
 -- a key stands in the rows exactly if it is among their keys
-pub has-among : (k : ℕ) (rows : List Row) → hasKey k rows ≡ among k (rowKeys rows)
+pub has-among : (k : ℕ) (rows : List Note) → hasKey k rows ≡ among k (noteKeys rows)
 has-among k [] = refl
 has-among k (r ∷ rows) = rw (has-among k rows)
 
 -- a row that gets another value keeps its key
-reset-keys : (k v : ℕ) (rows : List Row) → rowKeys (reset k v rows) ≡ rowKeys rows
+reset-keys : (k v : ℕ) (rows : List Note) → noteKeys (reset k v rows) ≡ noteKeys rows
 reset-keys k v [] = refl
 reset-keys k v (r ∷ rows) =
     split (hasKey k rows) (λ h. rw (h, reset-keys k v rows)) (λ h. rw h (split (eqb (r .key) k) (λ e. rw (e, eqb-true (r .key) k e)) (λ e. rw e)))
 
 -- the running values after a reset
-reset-first : (j k v : ℕ) (rows : List Row) → hasKey k rows ≡ true → runningValue j (reset k v rows) ≡ cond (eqb k j) (Present v) (runningValue j rows)
+reset-first : (j k v : ℕ) (rows : List Note) → hasKey k rows ≡ true → runningValue j (reset k v rows) ≡ cond (eqb k j) (Present v) (runningValue j rows)
 reset-first j k v [] h = absurd (false≢true h)
 reset-first j k v (r ∷ rows) h =
     split (hasKey k rows)
@@ -44,11 +43,11 @@ reset-first j k v (r ∷ rows) h =
     (λ e. rw (eqb-true (r .key) k y, e))))
 
 -- the keys after a note
-pub note-keys : (k v : ℕ) (rows : List Row) → rowKeys (note k v rows) ≡ cond (hasKey k rows) (rowKeys rows) (k ∷ rowKeys rows)
+pub note-keys : (k v : ℕ) (rows : List Note) → noteKeys (note k v rows) ≡ cond (hasKey k rows) (noteKeys rows) (k ∷ noteKeys rows)
 note-keys k v rows = split (hasKey k rows) (λ h. rw (h, reset-keys k v rows)) (λ h. rw h)
 
 -- the running values after a note
-pub note-first : (j k v : ℕ) (rows : List Row) → runningValue j (note k v rows) ≡ cond (eqb k j) (Present v) (runningValue j rows)
+pub note-first : (j k v : ℕ) (rows : List Note) → runningValue j (note k v rows) ≡ cond (eqb k j) (Present v) (runningValue j rows)
 note-first j k v rows =
     split (hasKey k rows)
     (λ h. rw h (reset-first j k v rows h))
@@ -75,14 +74,14 @@ keys-distinct (r ∷ own) =
     (λ u. rw u (keys-distinct own))
 
 -- all rows count where no key stands twice
-firsts-all : (rows : List Row) → distinct (rowKeys rows) ≡ true → firsts rows ≡ rows
+firsts-all : (rows : List Note) → distinct (noteKeys rows) ≡ true → firsts rows ≡ rows
 firsts-all [] h = refl
 firsts-all (r ∷ rows) h =
-    let a = not-true (among (r .key) (rowKeys rows)) (and-left (not (among (r .key) (rowKeys rows))) (distinct (rowKeys rows)) h) in
-    rw (has-among (r .key) rows, a, firsts-all rows (and-right (not (among (r .key) (rowKeys rows))) (distinct (rowKeys rows)) h))
+    let a = not-true (among (r .key) (noteKeys rows)) (and-left (not (among (r .key) (noteKeys rows))) (distinct (noteKeys rows)) h) in
+    rw (has-among (r .key) rows, a, firsts-all rows (and-right (not (among (r .key) (noteKeys rows))) (distinct (noteKeys rows)) h))
 
 -- all rows count where they have the keys that a transaction wrote
-pub firsts-written : (rows : List Row) (own : List Record) → rowKeys rows ≡ keysWritten own → firsts rows ≡ rows
+pub firsts-written : (rows : List Note) (own : List Record) → noteKeys rows ≡ keysWritten own → firsts rows ≡ rows
 firsts-written rows own e = firsts-all rows (rw e (keys-distinct own))
 
 -- places
@@ -108,11 +107,11 @@ open-other n s j (free ∷ ps) h = rw h
 open-other n s j (taken m u rows ∷ ps) h = rw (open-other n s j ps h)
 
 -- a taken place is not free
-not-taken : {A : Type 0} {n s : ℕ} {rows : List Row} → taken n s rows ≡ free → A
+not-taken : {A : Type 0} {n s : ℕ} {rows : List Note} → taken n s rows ≡ free → A
 not-taken e = absurd (true≢false (sym (ap isFree e)))
 
 -- a number that has no place
-free-other : (n m u : ℕ) (rows : List Row) (ps : List Place) → placeOf n (taken m u rows ∷ ps) ≡ free → (eqb m n ≡ false) × (placeOf n ps ≡ free)
+free-other : (n m u : ℕ) (rows : List Note) (ps : List Place) → placeOf n (taken m u rows ∷ ps) ≡ free → (eqb m n ≡ false) × (placeOf n ps ≡ free)
 free-other n m u rows ps h = split (eqb m n) (λ e. not-taken (rw e at h)) (λ e. (e, rw e at h))
 
 -- the new number has its place
@@ -172,7 +171,7 @@ amend-length n p (free ∷ ps) = rw (amend-length n p ps)
 amend-length n p (taken m u rows ∷ ps) = split (eqb m n) (λ e. rw e) (λ e. rw (e, amend-length n p ps))
 
 -- a place changed
-pub amend-taken : (n u : ℕ) (rs : List Row) (ps : List Place) → isFree (placeOf n ps) ≡ false
+pub amend-taken : (n u : ℕ) (rs : List Note) (ps : List Place) → isFree (placeOf n ps) ≡ false
     → (placeOf n (amend n (taken n u rs) ps) ≡ taken n u rs) × (occupied (amend n (taken n u rs) ps) ≡ occupied ps)
 amend-taken n u rs [] h = absurd (true≢false h)
 amend-taken n u rs (free ∷ ps) h = amend-taken n u rs ps h
@@ -192,7 +191,7 @@ amend-free n (taken m s rows ∷ ps) o h =
     (λ e. let i = amend-free n ps (and-right (isFree (placeOf m ps)) (once ps) o) (rw e at h) in rw (e, e) (i .0, rw (i .1)))
 
 -- no snapshot lies below T
-pub holds-not : (T : ℕ) (ps : List Place) → once ps ≡ true → ((n s : ℕ) (rows : List Row) → placeOf n ps ≡ taken n s rows → T ≤ s) → holds T ps ≡ false
+pub holds-not : (T : ℕ) (ps : List Place) → once ps ≡ true → ((n s : ℕ) (rows : List Note) → placeOf n ps ≡ taken n s rows → T ≤ s) → holds T ps ≡ false
 holds-not T [] o h = refl
 holds-not T (free ∷ ps) o h = holds-not T ps o h
 holds-not T (taken m s rows ∷ ps) o h =
@@ -204,7 +203,7 @@ holds-not T (taken m s rows ∷ ps) o h =
     (λ x. h n u rs (rw x e))))
 
 -- where nothing is held, each snapshot is at least T
-pub holds-none : (T n : ℕ) (ps : List Place) (m s : ℕ) (rows : List Row) → holds T ps ≡ false → placeOf n ps ≡ taken m s rows → T ≤ s
+pub holds-none : (T n : ℕ) (ps : List Place) (m s : ℕ) (rows : List Note) → holds T ps ≡ false → placeOf n ps ≡ taken m s rows → T ≤ s
 holds-none T n [] m s rows h e = not-taken (sym e)
 holds-none T n (free ∷ ps) m s rows h e = holds-none T n ps m s rows h e
 holds-none T n (taken j u rs ∷ ps) m s rows h e =

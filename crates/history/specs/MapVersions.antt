@@ -9,9 +9,8 @@ use lib.ListN.{length}
 use borrow.Author.Tests.{eqb-true, eq-eqb, leb-true, leb-false, ltb-true, ltb-false, le-leb, lt-leb, lt-ltb, le-ltb}
 use Rattle.rules.specs.declared.Value.{Value}
 use Rattle.rules.specs.declared.Value.the-variants.{Absent, Present}
-use Rattle.rules.specs.Values.{Row}
 use Rattle.rules.specs.Bools.{split, and-left, and-right, or-none-left, or-none-right, and-false, or-false}
-use Rattle.slot.specs.Places.{hasKey, orElse, runningValue}
+use Rattle.slot.specs.Places.{Note, hasKey, orElse, runningValue}
 use Rattle.versions.specs.declared.Version.{Version}
 use Rattle.versions.specs.Versions.{Best, nothing, at, better, newestStep, newest, shown, later, isRow, thin}
 use Rattle.map_store.specs.Meaning.{stamp}
@@ -54,13 +53,13 @@ or-absent Absent = refl
 or-absent (Present v) = refl
 
 -- a key without a row has no running value
-pub first-has : (k : ℕ) (rows : List Row) → hasKey k rows ≡ false → runningValue k rows ≡ Absent
+pub first-has : (k : ℕ) (rows : List Note) → hasKey k rows ≡ false → runningValue k rows ≡ Absent
 first-has k [] h = refl
 first-has k (r ∷ rows) h =
     rw (first-has k rows (or-none-right (eqb (r .key) k) (hasKey k rows) h), or-none-left (eqb (r .key) k) (hasKey k rows) h)
 
 -- a key with a row has one
-pub has-first : (k : ℕ) (rows : List Row) (w : Value) → hasKey k rows ≡ true → orElse (runningValue k rows) w ≡ runningValue k rows
+pub has-first : (k : ℕ) (rows : List Note) (w : Value) → hasKey k rows ≡ true → orElse (runningValue k rows) w ≡ runningValue k rows
 has-first k [] w h = absurd (false≢true h)
 has-first k (r ∷ rows) w h =
     split (hasKey k rows)
@@ -68,12 +67,12 @@ has-first k (r ∷ rows) w h =
     (λ x. let e : eqb (r .key) k ≡ true = rw (x, or-false (eqb (r .key) k)) at h in rw (first-has k rows x, e))
 
 -- what a search finds among a commit's versions
-record Stamped (k t u : ℕ) (rows : List Row) (vs : List Version) : Type 0 where
+record Stamped (k t u : ℕ) (rows : List Note) (vs : List Version) : Type 0 where
   val : shown (newest k t (stamp u rows vs)) ≡ orElse (runningValue k rows) (versions.valueAt k t vs)
   over : better (newest k t (stamp u rows vs)) u ≡ not (hasKey k rows)
 
 -- and that it finds it
-newest-stamp : (k t u m : ℕ) (rows : List Row) (vs : List Version) → ordered m vs ≡ true → m < u → u ≤ t → Stamped k t u rows vs
+newest-stamp : (k t u m : ℕ) (rows : List Note) (vs : List Version) → ordered m vs ≡ true → m < u → u ≤ t → Stamped k t u rows vs
 newest-stamp k t u m [] vs h l j = record { val = refl; over = better-ordered k t m u vs h l }
 newest-stamp k t u m (r ∷ rows) vs h l j =
     let i = newest-stamp k t u m rows vs h l j in
@@ -89,23 +88,23 @@ newest-stamp k t u m (r ∷ rows) vs h l j =
     (λ e. record { val = rw (e, or-absent (runningValue k rows)) (i .val); over = rw e (i .over) })
 
 -- a commit's versions, all later than what stands
-pub value-stamp : (k t u m : ℕ) (rows : List Row) (vs : List Version) → ordered m vs ≡ true → m < u
+pub value-stamp : (k t u m : ℕ) (rows : List Note) (vs : List Version) → ordered m vs ≡ true → m < u
     → versions.valueAt k t (stamp u rows vs) ≡ cond (leb u t) (orElse (runningValue k rows) (versions.valueAt k t vs)) (versions.valueAt k t vs)
 value-stamp k t u m rows vs h l =
     split (leb u t) (λ e. rw e (newest-stamp k t u m rows vs h l (leb-true u t e) .val)) (λ e. rw e (none-before rows (leb-false u t e)))
   where
-    none-before : (rows : List Row) → t < u → versions.valueAt k t (stamp u rows vs) ≡ versions.valueAt k t vs
+    none-before : (rows : List Note) → t < u → versions.valueAt k t (stamp u rows vs) ≡ versions.valueAt k t vs
     none-before [] z = refl
     none-before (r ∷ rows) z = rw (lt-leb u t z, and-false, none-before rows z)
 
 -- later versions after a commit
-pub later-stamp : (s k u : ℕ) (rows : List Row) (vs : List Version) → later s k (stamp u rows vs) ≡ ((ltb s u && hasKey k rows) || later s k vs)
+pub later-stamp : (s k u : ℕ) (rows : List Note) (vs : List Version) → later s k (stamp u rows vs) ≡ ((ltb s u && hasKey k rows) || later s k vs)
 later-stamp s k u [] vs = rw and-false
 later-stamp s k u (r ∷ rows) vs =
     rw (later-stamp s k u rows vs) (split (ltb s u) (λ e. rw e (split (eqb (r .key) k) (λ x. rw x) (λ x. rw x))) (λ e. rw (e, and-false)))
 
 -- a commit's versions come last
-pub ordered-stamp : (u m : ℕ) (rows : List Row) (vs : List Version) → ordered m vs ≡ true → m ≤ u → ordered u (stamp u rows vs) ≡ true
+pub ordered-stamp : (u m : ℕ) (rows : List Note) (vs : List Version) → ordered m vs ≡ true → m ≤ u → ordered u (stamp u rows vs) ≡ true
 ordered-stamp u m [] vs h l = ordered-up m u vs l h
 ordered-stamp u m (r ∷ rows) vs h l = rw (le-leb u u (omega arith)) (ordered-stamp u m rows vs h l)
 

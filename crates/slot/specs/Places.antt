@@ -6,7 +6,6 @@ use lib.Dec.{eqb, ltb}
 use lib.ListN.{getD}
 use Rattle.rules.specs.declared.Value.{Value}
 use Rattle.rules.specs.declared.Value.the-variants.{Absent, Present}
-use Rattle.rules.specs.Values.{Row}
 use Rattle.column.specs.declared.Found.{Found}
 use Rattle.column.specs.declared.Found.the-variants.{At, Nothing}
 use Rattle.slot.specs.declared.Slot.{Slot}
@@ -14,13 +13,19 @@ use Rattle.slot.specs.declared.Slots.{Slots}
 use Rattle.slot.specs.Slots.{slotAt, isOccupied}
 
 -- a row of a slot: a key that its transaction wrote, and the running value
-abbrev pub Note : Type 0
-Note = Row
+pub record Note : Type 0 where
+  pub key : ℕ
+  pub value : ℕ
 
 -- free, or taken by a transaction: its number, its snapshot, a row for each key that it wrote
 pub data Place : Type 0 where
   free : Place
   taken : ℕ → ℕ → List Note → Place
+
+-- the keys of some rows
+abbrev pub noteKeys : List Note → List ℕ
+noteKeys [] = []
+noteKeys (r ∷ rows) = r .key ∷ noteKeys rows
 
 -- some row has the key
 abbrev pub hasKey : ℕ → List Note → Bool

@@ -1,6 +1,6 @@
 -- The rows of a slot mean what is found and noted in it. Assumes nothing.
 use mathlib.Core.Bool.{true, false, _||_}
-use mathlib.Core.List.{List}
+use mathlib.Core.List.{List, [], _∷_}
 use mathlib.Core.Logic.{⊎-elim}
 use mathlib.Core.Path.{_≡_, refl, ap}
 use Prim.Native.Nat.{ℕ, zero, suc, _<_}
@@ -20,12 +20,17 @@ use Rattle.slot.specs.declared.Slot.{Slot}
 use Rattle.slot.specs.Slot.{room, rowOf, noted}
 use Rattle.slot.specs.Slots.{met}
 use Rattle.slot.specs.Formed.{Rowed}
-use Rattle.slot.specs.Places.{taken, hasKey, runningValue, reset, note, rowsOf, slotRows, valueIn, takenBy}
+use Rattle.slot.specs.Places.{Note, taken, noteKeys, hasKey, runningValue, reset, note, rowsOf, slotRows, valueIn, takenBy}
 
 -- there are as many as are asked for
 pub length-rows : (keys values : List ℕ) (n : ℕ) → length (rowsOf keys values n) ≡ n
 length-rows keys values zero = refl
 length-rows keys values (suc n) = ap suc (length-rows keys values n)
+
+-- each row has a key
+pub length-keys : (rows : List Note) → length (noteKeys rows) ≡ length rows
+length-keys [] = refl
+length-keys (r ∷ rows) = rw (length-keys rows)
 
 -- follow n each way: it is i, or i stands below it
 below-suc : {P : Type 0} (i n : ℕ) → i < suc n → (i ≡ n → P) → (i < n → P) → P
