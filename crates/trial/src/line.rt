@@ -1,5 +1,5 @@
 // A line of the script, read byte by byte.
-ghost use Prim.Native.Nat.{_<_};
+use std::num::wrapping_add_u32;
 use std::num::wrapping_add_u64;
 
 // What a line says: its word, up to three numbers, and the answer wanted, a number of section 6 and perhaps a value. `place` counts the numbers that
@@ -100,7 +100,7 @@ impl Line {
     // One letter more of the word, unless a number stands behind it already.
     fn spelt(mut self, letter: u8) -> Self {
         if self.place == 0 {
-            self.word = self.word % 65536 * 256 + wide(letter);
+            self.word = wrapping_add_u32(self.word % 65536 * 256, letter as u32);
         }
         self
     }
@@ -160,13 +160,6 @@ impl Line {
             _ => self.closed(),
         }
     }
-}
-
-// A letter as one of the bytes of a word's number.
-fn wide(letter: u8) -> u32
-    ensures { λ r. ⌜ r < 256 ⌝ }
-{
-    letter as u32
 }
 
 // The line of the script that starts at a place. In it `x` stands for a number.

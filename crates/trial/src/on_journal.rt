@@ -1,5 +1,8 @@
 // The script's calls on the journal store.
+use crate::call::Call;
+use crate::line;
 use crate::line::Line;
+use crate::play::Play;
 use crate::say;
 use crate::sums;
 use host::Answer;
@@ -24,22 +27,26 @@ fn numbered(floor: u32) -> JournalOutcome {
 
 // A sum of the head and all cells.
 fn sum(h: Head, keys: &[u32], values: &[u32], bytes: &[u8]) -> Answer {
-    let base = h.base;
-    let journal = h.journal;
-    let bounds = sums::more(h.low, h.floor as u64);
-    let counts = sums::more(sums::more(bounds, base.rows as u64), journal.used as u64);
-    say::beside(sums::of_bytes(
-        sums::of_column(sums::of_column(counts, keys), values),
-        bytes,
-    ))
+    let head = sums::three(
+        h.low,
+        h.floor as u64,
+        h.base.rows as u64,
+        h.journal.used as u64,
+    );
+    let base = sums::of_column(sums::of_column(head, keys), values);
+    say::beside(sums::of_bytes(base, bytes))
 }
 
-// The list at t into so many rows, or one of the rows after it.
-fn listed(h: Head, keys: &[u32], values: &[u32], bytes: &[u8], line: Line) -> Answer {
-    let rows = line.b as usize;
+// The list at t into so many rows; or one of the rows after it, counted from 1, as a number and a value.
+fn listed(h: Head, keys: &[u32], values: &[u32], bytes: &[u8], call: Call) -> Answer {
+    let rows = call.b as usize;
+    let row = call.c as usize;
     let mut listed = [say::MARK; say::ROWS];
     let mut contents = [say::MARK; say::ROWS];
     if rows > say::ROWS {
+        return say::alone(say::NO_CALL);
+    }
+    if row > say::ROWS {
         return say::alone(say::NO_CALL);
     }
     let answer = journal_calls::registers_journal_list(
@@ -47,57 +54,65 @@ fn listed(h: Head, keys: &[u32], values: &[u32], bytes: &[u8], line: Line) -> An
         keys,
         values,
         bytes,
-        line.a,
+        call.a,
         &mut listed[0..rows],
         &mut contents[0..rows],
     );
-    say::row(answer, &listed, &contents, line.c as usize)
+    if row == 0 {
+        return answer;
+    }
+    let i = row - 1;
+    Answer {
+        number: listed[i],
+        present: 1,
+        value: sums::wide(contents[i]),
+    }
 }
 
 // The calls that change nothing.
-fn asked(h: Head, keys: &[u32], values: &[u32], bytes: &[u8], word: u32, line: Line) -> Answer {
-    let b = line.b;
-    let n = (line.a % 4294967296) as u32;
-    let k = (b % 4294967296) as u32;
+fn asked(h: Head, keys: &[u32], values: &[u32], bytes: &[u8], call: Call) -> Answer {
+    let word = call.word;
     match word {
-        Line::READ => journal_calls::registers_journal_read(h, keys, values, bytes, n, k),
-        Line::LOOKUP => journal_calls::registers_journal_lookup(h, keys, values, bytes, n, b),
-        Line::LIST => listed(h, keys, values, bytes, line),
+        Line::READ => journal_calls::registers_journal_read(h, keys, values, bytes, call.n, call.k),
+        Line::LOOKUP => journal_calls::registers_journal_lookup(
+            h,
+            keys,
+            values,
+            bytes,
+            call.n,
+            call.b,
+        ),
+        Line::LIST => listed(h, keys, values, bytes, call),
         Line::SUM => sum(h, keys, values, bytes),
         _ => say::alone(say::NO_CALL),
     }
 }
 
-// The calls that change no base column.
-fn written(
-    h: Head,
-    keys: &[u32],
-    values: &[u32],
-    bytes: &mut [u8],
-    word: u32,
-    line: Line,
-) -> JournalOutcome {
-    let a = line.a;
-    let b = line.b;
-    let n = (a % 4294967296) as u32;
-    let k = (b % 4294967296) as u32;
-    let v = (line.c % 4294967296) as u32;
+// Updates, what else is done to a store, and the calls that change nothing.
+fn updated(h: Head, keys: &[u32], values: &[u32], bytes: &mut [u8], call: Call) -> JournalOutcome {
+    let word = call.word;
     match word {
-        Line::BEGIN => journal_calls::registers_journal_begin(h, keys, values, bytes, a),
-        Line::ASSIGN => journal_calls::registers_journal_assign(h, keys, values, bytes, n, k, v),
-        Line::ADD => journal_calls::registers_journal_add(h, keys, values, bytes, n, k, v),
-        Line::ABORT => journal_calls::registers_journal_abort(h, keys, values, bytes, n),
-        Line::COMMIT => journal_calls::registers_journal_commit(h, keys, values, bytes, n, b),
-        Line::RECOVER => journal_calls::registers_journal_recover(
+        Line::ASSIGN => journal_calls::registers_journal_assign(
             h,
             keys,
             values,
             bytes,
-            a as usize,
+            call.n,
+            call.k,
+            call.v,
         ),
-        Line::STORE => numbered(n),
+        Line::ADD => journal_calls::registers_journal_add(
+            h,
+            keys,
+            values,
+            bytes,
+            call.n,
+            call.k,
+            call.v,
+        ),
+        Line::STORE => numbered(call.n),
         Line::FILL => {
-            sums::fill(bytes, a as usize, b as usize, (line.c % 256) as u8);
+            sums::fill(bytes, call);
             JournalOutcome {
                 head: h,
                 answer: say::alone(0),
@@ -105,22 +120,72 @@ fn written(
         }
         _ => JournalOutcome {
             head: h,
-            answer: asked(h, keys, values, bytes, word, line),
+            answer: asked(h, keys, values, bytes, call),
         },
     }
 }
 
+// The calls that change no base column.
+fn written(h: Head, keys: &[u32], values: &[u32], bytes: &mut [u8], call: Call) -> JournalOutcome {
+    let word = call.word;
+    match word {
+        Line::BEGIN => journal_calls::registers_journal_begin(h, keys, values, bytes, call.a),
+        Line::ABORT => journal_calls::registers_journal_abort(h, keys, values, bytes, call.n),
+        Line::COMMIT => journal_calls::registers_journal_commit(
+            h,
+            keys,
+            values,
+            bytes,
+            call.n,
+            call.b,
+        ),
+        Line::RECOVER => journal_calls::registers_journal_recover(
+            h,
+            keys,
+            values,
+            bytes,
+            call.a as usize,
+        ),
+        _ => updated(h, keys, values, bytes, call),
+    }
+}
+
 // A call, or what else a line asks.
-pub(crate) fn turn(
+fn turn(
     h: Head,
     keys: &mut [u32],
     values: &mut [u32],
     bytes: &mut [u8],
-    word: u32,
-    line: Line,
+    call: Call,
 ) -> JournalOutcome {
-    if word == Line::CHECKPOINT {
-        return journal_calls::registers_journal_checkpoint(h, keys, values, bytes, line.a);
+    if call.word == Line::CHECKPOINT {
+        return journal_calls::registers_journal_checkpoint(h, keys, values, bytes, call.a);
     }
-    written(h, keys, values, bytes, word, line)
+    written(h, keys, values, bytes, call)
+}
+
+// The script on a journal store.
+pub(crate) fn run(
+    script: &[u8],
+    store: u32,
+    keys: &mut [u32],
+    values: &mut [u32],
+    bytes: &mut [u8],
+) {
+    let mut play = Play::new(store);
+    let mut head = Head::empty();
+    let mut turns = Play::TURNS;
+    while turns > 0 {
+        let at = play.at;
+        if at >= script.len() {
+            break;
+        }
+        let line = line::read(script, at, play.x);
+        let o = turn(head, keys, values, bytes, play.call(line));
+        head = o.head;
+        let answer = o.answer;
+        play = play.judged(script, line, answer);
+        turns -= 1;
+    }
+    play.ended();
 }

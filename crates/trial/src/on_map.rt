@@ -1,5 +1,8 @@
 // The script's calls on the map store.
+use crate::call::Call;
+use crate::line;
 use crate::line::Line;
+use crate::play::Play;
 use crate::say;
 use crate::sums;
 use host::Answer;
@@ -27,14 +30,13 @@ fn numbered(next: u32) -> MapOutcome {
 fn slot_sum(sum: u64, s: Slot) -> u64 {
     let keys = s.keys;
     let values = s.values;
-    let head = sums::more(sums::more(sum, s.number as u64), s.snapshot);
-    let rows = sums::more(head, s.count as u64);
-    sums::of_column(sums::of_column(rows, &keys), &values)
+    let head = sums::three(sum, s.number as u64, s.snapshot, s.count as u64);
+    sums::of_column(sums::of_column(head, &keys), &values)
 }
 
 // The eight slots added to a sum.
 fn slots_sum(sum: u64, slots: Slots) -> u64 {
-    let mut s = sums::more(sum, slots.occupied as u64);
+    let mut s = sum;
     let mut i = 0;
     while i < Slots::SLOTS {
         s = slot_sum(s, slots.at(i));
@@ -46,18 +48,21 @@ fn slots_sum(sum: u64, slots: Slots) -> u64 {
 // A sum of the head and all cells.
 fn sum(h: MapHead, keys: &[u32], times: &[u64], values: &[u32]) -> Answer {
     let slots = h.slots;
-    let bounds = sums::more(h.low, h.last);
-    let counts = sums::more(sums::more(bounds, h.next as u64), h.used as u64);
-    let columns = sums::of_column(sums::of_times(sums::of_column(counts, keys), times), values);
-    say::beside(slots_sum(columns, slots))
+    let head = sums::three(h.low, h.last, h.next as u64, h.used as u64);
+    let columns = sums::of_column(sums::of_times(sums::of_column(head, keys), times), values);
+    say::beside(slots_sum(sums::three(columns, slots.occupied as u64, 0, 0), slots))
 }
 
-// The list at t into so many rows, or one of the rows after it.
-fn listed(h: MapHead, keys: &[u32], times: &[u64], values: &[u32], line: Line) -> Answer {
-    let rows = line.b as usize;
+// The list at t into so many rows; or one of the rows after it, counted from 1, as a number and a value.
+fn listed(h: MapHead, keys: &[u32], times: &[u64], values: &[u32], call: Call) -> Answer {
+    let rows = call.b as usize;
+    let row = call.c as usize;
     let mut listed = [say::MARK; say::ROWS];
     let mut contents = [say::MARK; say::ROWS];
     if rows > say::ROWS {
+        return say::alone(say::NO_CALL);
+    }
+    if row > say::ROWS {
         return say::alone(say::NO_CALL);
     }
     let answer = map_calls::registers_map_list(
@@ -65,73 +70,92 @@ fn listed(h: MapHead, keys: &[u32], times: &[u64], values: &[u32], line: Line) -
         keys,
         times,
         values,
-        line.a,
+        call.a,
         &mut listed[0..rows],
         &mut contents[0..rows],
     );
-    say::row(answer, &listed, &contents, line.c as usize)
+    if row == 0 {
+        return answer;
+    }
+    let i = row - 1;
+    Answer {
+        number: listed[i],
+        present: 1,
+        value: sums::wide(contents[i]),
+    }
 }
 
 // The calls that change nothing.
-fn asked(h: MapHead, keys: &[u32], times: &[u64], values: &[u32], word: u32, line: Line) -> Answer {
-    let b = line.b;
-    let n = (line.a % 4294967296) as u32;
-    let k = (b % 4294967296) as u32;
+fn asked(h: MapHead, keys: &[u32], times: &[u64], values: &[u32], call: Call) -> Answer {
+    let word = call.word;
     match word {
-        Line::READ => map_calls::registers_map_read(h, keys, times, values, n, k),
-        Line::LOOKUP => map_calls::registers_map_lookup(h, keys, times, values, n, b),
-        Line::LIST => listed(h, keys, times, values, line),
+        Line::READ => map_calls::registers_map_read(h, keys, times, values, call.n, call.k),
+        Line::LOOKUP => map_calls::registers_map_lookup(h, keys, times, values, call.n, call.b),
+        Line::LIST => listed(h, keys, times, values, call),
         Line::SUM => sum(h, keys, times, values),
         _ => say::alone(say::NO_CALL),
     }
 }
 
 // The calls that change no version.
-fn noted(
-    h: MapHead,
-    keys: &[u32],
-    times: &[u64],
-    values: &[u32],
-    word: u32,
-    line: Line,
-) -> MapOutcome {
-    let a = line.a;
-    let n = (a % 4294967296) as u32;
-    let k = (line.b % 4294967296) as u32;
-    let v = (line.c % 4294967296) as u32;
+fn noted(h: MapHead, keys: &[u32], times: &[u64], values: &[u32], call: Call) -> MapOutcome {
+    let word = call.word;
     match word {
-        Line::BEGIN => map_calls::registers_map_begin(h, keys, times, values, a),
-        Line::ASSIGN => map_calls::registers_map_assign(h, keys, times, values, n, k, v),
-        Line::ADD => map_calls::registers_map_add(h, keys, times, values, n, k, v),
-        Line::ABORT => map_calls::registers_map_abort(h, keys, times, values, n),
-        Line::STORE => numbered(n),
+        Line::BEGIN => map_calls::registers_map_begin(h, keys, times, values, call.a),
+        Line::ASSIGN => map_calls::registers_map_assign(
+            h,
+            keys,
+            times,
+            values,
+            call.n,
+            call.k,
+            call.v,
+        ),
+        Line::ADD => map_calls::registers_map_add(h, keys, times, values, call.n, call.k, call.v),
+        Line::ABORT => map_calls::registers_map_abort(h, keys, times, values, call.n),
+        Line::STORE => numbered(call.n),
         _ => MapOutcome {
             head: h,
-            answer: asked(h, keys, times, values, word, line),
+            answer: asked(h, keys, times, values, call),
         },
     }
 }
 
 // A call, or what else a line asks.
-pub(crate) fn turn(
+fn turn(
     h: MapHead,
-    keys: &mut [u32],
-    times: &mut [u64],
-    values: &mut [u32],
-    word: u32,
-    line: Line,
+    keys: &mut [u32; say::ROWS],
+    times: &mut [u64; say::ROWS],
+    values: &mut [u32; say::ROWS],
+    call: Call,
 ) -> MapOutcome {
-    let a = line.a;
+    let word = call.word;
     match word {
-        Line::COMMIT => map_calls::registers_map_commit(
-            h,
-            keys,
-            times,
-            values,
-            (a % 4294967296) as u32,
-            line.b,
-        ),
-        Line::CHECKPOINT => map_calls::registers_map_checkpoint(h, keys, times, values, a),
-        _ => noted(h, keys, times, values, word, line),
+        Line::COMMIT => map_calls::registers_map_commit(h, keys, times, values, call.n, call.b),
+        Line::CHECKPOINT => map_calls::registers_map_checkpoint(h, keys, times, values, call.a),
+        _ => noted(h, keys, times, values, call),
     }
+}
+
+// The script on a map store.
+pub(crate) fn run(script: &[u8]) {
+    let mut keys = [0u32; say::ROWS];
+    let mut times = [0u64; say::ROWS];
+    let mut values = [0u32; say::ROWS];
+    let mut play = Play::new(Line::MAP);
+    let mut head = MapHead::empty();
+    let mut turns = Play::TURNS;
+    while turns > 0 {
+        let at = play.at;
+        if at >= script.len() {
+            break;
+        }
+        let line = line::read(script, at, play.x);
+        let o = turn(head, &mut keys, &mut times, &mut values, play.call(line));
+        head = o.head;
+        let answer = o.answer;
+        play = play.judged(script, line, answer);
+        turns -= 1;
+    }
+    play.ended();
 }

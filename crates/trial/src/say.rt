@@ -1,6 +1,5 @@
 // Answers made here, and what the program writes.
 use crate::line::Line;
-use crate::sums;
 use host::Answer;
 use libc::STDOUT_FILENO;
 
@@ -30,36 +29,11 @@ pub(crate) fn beside(value: u64) -> Answer {
     }
 }
 
-// A row of a list, counted from 1, as a number and a value; for row 0 the list's own answer.
-pub(crate) fn row(
-    answer: Answer,
-    listed: &[u32; ROWS],
-    contents: &[u32; ROWS],
-    row: usize,
-) -> Answer {
-    if row == 0 {
-        return answer;
-    }
-    let i = row - 1;
-    if i >= ROWS {
-        return alone(NO_CALL);
-    }
-    Answer {
-        number: listed[i],
-        present: 1,
-        value: sums::wide(contents[i]),
-    }
-}
-
 // Whether an answer is the one that a line wants.
 pub(crate) fn wanted(line: Line, answer: Answer) -> bool {
-    if answer.number as u64 != line.number {
-        return false;
-    }
-    if answer.value != line.value {
-        return false;
-    }
-    line.valued() == (answer.present == 1)
+    (answer.number as u64 == line.number)
+        & (answer.value == line.value)
+        & (line.valued() == (answer.present == 1))
 }
 
 // A text of a store.
@@ -72,8 +46,8 @@ pub(crate) fn text(store: u32, text: &[u8]) {
     io::write_all(STDOUT_FILENO, text);
 }
 
-// The text of a line of the script, and what became of it.
-pub(crate) fn line(store: u32, script: &[u8], from: usize, to: usize, note: &[u8]) {
+// The text of a line of the script.
+pub(crate) fn line(store: u32, script: &[u8], from: usize, to: usize) {
     if from > to {
         return;
     }
@@ -81,7 +55,22 @@ pub(crate) fn line(store: u32, script: &[u8], from: usize, to: usize, note: &[u8
         return;
     }
     text(store, &script[from..to]);
-    io::write_all(STDOUT_FILENO, note);
+}
+
+// What became of a line, behind its text.
+pub(crate) fn verdict(right: bool, answer: Answer) {
+    if right {
+        io::write_all(STDOUT_FILENO, b" ok\n");
+        return;
+    }
+    io::write_all(STDOUT_FILENO, b" DIFFERS, came");
+    numbers(answer.number as u64, answer.value);
+}
+
+// A line of the script that was refused, and yet something is not as it was.
+pub(crate) fn changed(store: u32, script: &[u8], from: usize, to: usize) {
+    line(store, script, from, to);
+    io::write_all(STDOUT_FILENO, b" CHANGED CELLS\n");
 }
 
 // Two numbers and the end of a line.

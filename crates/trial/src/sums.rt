@@ -1,14 +1,22 @@
 // A sum of cells, by which a change is seen.
+use crate::call::Call;
 use std::num::wrapping_add_u64;
 
 // A sum with one number more. Its bits turn round and none is lost, so that sums which differ in one number differ.
-pub(crate) fn more(sum: u64, x: u64) -> u64 {
+fn more(sum: u64, x: u64) -> u64 {
     wrapping_add_u64(sum << 7 | sum >> 57, x)
 }
 
+// A sum with three numbers more.
+pub(crate) fn three(sum: u64, x: u64, y: u64, z: u64) -> u64 {
+    more(more(more(sum, x), y), z)
+}
+
 // Every byte from one place up to another gets a value.
-pub(crate) fn fill(bytes: &mut [u8], from: usize, to: usize, value: u8) {
-    let mut i = from;
+pub(crate) fn fill(bytes: &mut [u8], call: Call) {
+    let value = (call.v % 256) as u8;
+    let to = call.b as usize;
+    let mut i = call.a as usize;
     while i < to {
         if i >= bytes.len() {
             return;

@@ -10,12 +10,6 @@ Inv-loop sum slots s₀ i₀ s i = Unit {0}
 abbrev μ-loop : tie.MeasureT-loop
 μ-loop sum slots s₀ i₀ s i = 8 - i
 
-cast-more : tie.Need-cast-more Inv-loop μ-loop
-cast-more c = search needs
-
-more-requires : tie.Need-more-requires Inv-loop μ-loop
-more-requires c κs = search needs
-
 loop-holds : tie.Need-loop-holds Inv-loop μ-loop
 loop-holds c = search needs
 
@@ -43,8 +37,6 @@ slots-sum-spec =
     (tie.spec
     Inv-loop
     μ-loop
-    cast-more
-    more-requires
     loop-holds
     at-requires
     slot-sum-requires

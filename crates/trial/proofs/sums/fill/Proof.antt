@@ -1,16 +1,19 @@
 -- `trial::sums::fill` is safe and ends: each turn leaves one byte less.
 use Prim.Native.Nat.{_-_}
 use mathlib.Core.Path.{_≡_}
-use lib.ListN.{length}
 use borrow.Author.Needs.{needs}
+use lib.ListN.{length}
 use Rattle.trial.proofs.sums.fill.Statement.{statement}
 use Rattle.trial.proofs.sums.fill.Tie as tie
 
 abbrev Inv-loop : tie.InvT-loop
-Inv-loop bytes₀ from to value i₀ bytes i = length bytes ≡ length bytes₀
+Inv-loop bytes₀ value to i₀ bytes i = length bytes ≡ length bytes₀
 
 abbrev μ-loop : tie.MeasureT-loop
-μ-loop bytes₀ from to value i₀ bytes i = to - i
+μ-loop bytes₀ value to i₀ bytes i = to - i
+
+cast-value : tie.Need-cast-value Inv-loop μ-loop
+cast-value c = search needs
 
 loop-holds : tie.Need-loop-holds Inv-loop μ-loop
 loop-holds c = search needs
@@ -45,6 +48,7 @@ fill-spec =
     (tie.spec
     Inv-loop
     μ-loop
+    cast-value
     loop-holds
     same-length
     returns
