@@ -13,9 +13,9 @@
  * A call keeps nothing of what it was lent, so calls on different stores may run at the same time.
  *
  * Stack. The library allocates nothing; its columns are on the stack. On a full store the journal store's checkpoint
- * takes 63 KB and its list 59, read and lookup 19, commit 17, recover 13, begin and update 9, abort less than 1; the
- * map store's checkpoint takes 46 KB, its list 36, commit 19, update 13, begin 12, abort 10, read 5 and lookup 3
- * (rounded up, as host/bench measures them on Arm; the frames that the compiler makes for x86-64 are as large).
+ * takes 64 KB and its list 59, read and lookup 19, commit 17, recover 13, begin and update 9, abort less than 1; the
+ * map store's checkpoint takes 46 KB, its list 36, commit 19, update 13, begin 12, abort 10, read 6 and lookup 3
+ * (rounded up, the greater of what host/bench measures on x86-64 and on Arm).
  *
  * What comes back. A call that changes the store returns a head: use it from then on in place of the old one. A
  * refused call returns the head that it was given and changes no lent cell. The answer is the number of the
