@@ -4,6 +4,7 @@
 use mathlib.Core.Path.{_≡_}
 use mathlib.Core.Bool.{true}
 use mathlib.Core.List.{List, [], _∷_}
+use mathlib.Core.Logic.{_≢_}
 use Prim.Native.Nat.{ℕ, _≤_}
 use lib.ListN.{length}
 use Rattle.rules.specs.declared.Effect.{Effect}
@@ -58,3 +59,9 @@ pub data MapReached : List Deed → MapCells → Type 0 where
       → (isShaped (x .head) (lengths cs) ≡ true → MapHolds x cs)
       → (a : Reply) (head : MapHead) (cs' : Columns) → Does (x .head) cs a head d cs'
       → MapReached (after (a .number) (d ∷ ds) ds) (after (a .number) (record { head = head; columns = cs' }) x)
+
+-- A map store that was given these deeds one after the other, the newest first, and refused none for room (12); what else it answered is left open.
+pub data Given : List Deed → MapCells → Type 0 where
+  nothing-given : Given [] emptyMapCells
+  given : {ds : List Deed} {x : MapCells} → Given ds x → (d : Deed) (cs : Columns) → MapLent x cs → (a : Reply) (head : MapHead) (cs' : Columns)
+      → Does (x .head) cs a head d cs' → a .number ≢ 12 → Given (d ∷ ds) (record { head = head; columns = cs' })

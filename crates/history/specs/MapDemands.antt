@@ -1,7 +1,7 @@
 -- The demands on the map store by itself, over any sequence of its calls and checkpoints from an empty store, with whatever room is lent to each, refused
 -- calls included (MapCells): it answers as the history of its accepted calls does. So a journal store that accepted the same calls answers alike, number
 -- for number and row for row. Assumes nothing.
-use mathlib.Core.Path.{_≡_, refl, ap, sym, _∙_}
+use mathlib.Core.Path.{_≡_, refl, ap, sym, _∙_, subst}
 use mathlib.Core.Bool.{Bool, true, false, cond, not}
 use mathlib.Core.List.{List, _∷_}
 use mathlib.Core.Logic.{_≢_}
@@ -15,7 +15,7 @@ use Rattle.rules.specs.Lists.{among}
 use Rattle.rules.specs.Passed.{passed, fitting}
 use Rattle.rules.specs.Calls.{Call, Begin, Update, Abort, Commit, withRoom}
 use Rattle.rules.specs.declared.Value.the-variants.{Present}
-use Rattle.answer.specs.Reply.{Reply, accepted, told}
+use Rattle.answer.specs.Reply.{Reply, accepted, told, after}
 use Rattle.slot.specs.Places.{Place, free, taken, placeOf}
 use Rattle.versions.specs.Versions.{Columns}
 use Rattle.versions.specs.Laws.{length-versions}
@@ -28,14 +28,14 @@ use Rattle.map_store.specs.Contracts.{shapedNumber, readReply, lookupReply, Lis
 use Rattle.map_store.specs.Laws.{number-good}
 use Rattle.history.specs.History.{History, Deed, Did, Checkpointed, numbers, changesOf, history, valueIn, reads, listIn}
 use Rattle.history.specs.Refusals.{distinctKeys, lastIn, timeRefused, unknownOr, refusalIn, givesIn, needIn, deedGives, mapNumberIn, lookupNumber, readNumber}
-use Rattle.history.specs.Lawful.{Lawful, went}
+use Rattle.history.specs.Lawful.{Lawful, start, went}
 use Rattle.history.specs.Maps.{mapped}
 use Rattle.history.specs.MapMeanings.{map-gives, map-refuses, map-times, map-value, map-list, map-reads, map-rows}
 use Rattle.history.specs.Cells.{Cells, end, Lent, Shows, Registers, Reached}
 use Rattle.history.specs.Rows.{shown-registers}
 use Rattle.history.specs.Lent.{told-same, shows-same, shows-alike}
-use Rattle.history.specs.Demands.{room-same, in-time, list-answers, looks-up-the-history, reads-the-history, calls-answer}
-use Rattle.history.specs.MapCells.{MapCells, MapLent, Does, begins, updates, aborts, commits, checkpoints, MapReached}
+use Rattle.history.specs.Demands.{accepted-is-lawful, room-same, in-time, list-answers, looks-up-the-history, reads-the-history, calls-answer}
+use Rattle.history.specs.MapCells.{MapCells, MapLent, Does, begins, updates, aborts, commits, checkpoints, MapReached, map-start, did, Given, nothing-given, given}
 use Rattle.history.specs.MapMeant.{map-meant, map-lent-passes, map-lent-meaning}
 use Rattle.versions.specs.Versions as versions
 use Rattle.map_store.specs.Meaning as map
@@ -183,6 +183,18 @@ module _ {ds : List Deed} {m : MapCells} (r : MapReached ds m) (cs : Columns) (l
       let p = map-answers r cs l a head w in
       let q = but-for-rows (m .head .used) (shape.roomOf (length (cs .keys))) d (history ds) (λ z. n (ap (λ (i : Reply). i .number) p ∙ z)) in
       p ∙ ap (λ (i : ℕ). told i (deedGives d (history ds))) (q ∙ e)
+
+-- So a map store that is given lawful deeds one after the other, and refuses none for room, has accepted them all.
+given-reached : {ds : List Deed} {m : MapCells} → Lawful ds → Given ds m → MapReached ds m
+given-reached start nothing-given = map-start
+given-reached (went ok e) (given {ds = ds} {x = x} g d cs l a head cs' w n) =
+    let r = given-reached ok g in
+    subst (λ (i : ℕ). MapReached (after i (d ∷ ds) ds) (after i (record { head = head; columns = cs' }) x))
+    (ap (λ (q : Reply). q .number) (the-map-accepts r cs l (went ok e) a head w n)) (did r d cs (λ shaped. l .held) a head cs' w)
+
+-- And so with what a journal store accepted.
+pub the-map-follows : {room : ℕ → Type 0} {ds : List Deed} {since : ℕ} {x : Cells} → Reached room ds since x → {m : MapCells} → Given ds m → MapReached ds m
+the-map-follows j g = given-reached (accepted-is-lawful j) g
 
 module _ {room : ℕ → Type 0} {ds : List Deed} {since : ℕ} {x : Cells} (j : Reached room ds since x) (keys values journal : List ℕ)
     (b : Lent x (end x) keys values journal) {m : MapCells} (r : MapReached ds m) (cs : Columns) (l : MapLent m cs) where

@@ -24,7 +24,7 @@ use Rattle.history.specs.History.{Deed, Did, Checkpointed, numbers, hist
 use Rattle.history.specs.Refusals.{lastIn, givesIn, deedGives, numberIn, mapNumberIn, lookupNumber, readNumber, timeRefused, refusalIn}
 use Rattle.history.specs.Lawful.{Lawful}
 use Rattle.history.specs.Cells.{Cells, end, Lent, Shows, Registers, Cut, lost, counting, Reached}
-use Rattle.history.specs.MapCells.{MapCells, MapLent, Does, MapReached}
+use Rattle.history.specs.MapCells.{MapCells, MapLent, Does, MapReached, Given}
 use Rattle.history.specs.Silence.{withoutCheckpoints}
 use Rattle.history.specs.Demands as demands
 use Rattle.history.specs.MapDemands as map
@@ -157,6 +157,10 @@ pub the-map-accepts : {ds : List Deed} {m : MapCells} → MapReached ds m → (c
     → (a : Reply) (head : MapHead) {cs' : Columns} → Does (m .head) cs a head d cs' → a .number ≢ 12
     → a ≡ told 0 (deedGives d (history ds))
 the-map-accepts = map.the-map-accepts
+
+-- So one that is given them one after the other, and refuses none for room, has accepted them all.
+pub the-map-follows : {room : ℕ → Type 0} {ds : List Deed} {since : ℕ} {x : Cells} → Reached room ds since x → {m : MapCells} → Given ds m → MapReached ds m
+the-map-follows = map.the-map-follows
 
 -- Where one of them took checkpoints that the other refused or was not given, they list alike from both lows on.
 pub stores-list-alike-between-checkpoints : {room : ℕ → Type 0} {ds ds' : List Deed} {since : ℕ} {x : Cells} {m : MapCells} → Reached room ds since x
