@@ -35,9 +35,6 @@ returns c =
     let a = c .before .before .before .before .before .args in
     low-kind (take (a .opened) (now (a .running))) (take (a .late) (now (a .lates))) (a .r) (c .if1 .taken)
 
-is-in-requires : tie.Need-is-in-requires
-is-in-requires c κs = search needs
-
 returns-2 : tie.Need-returns-2
 returns-2 c =
     let w = c .before in
@@ -55,9 +52,6 @@ returns-3 c =
     high-kind (take (a .opened) (now (a .running))) (take (a .late) (now (a .lates))) (a .r) (e .if1 .left) _ (i .is-in .ensures) (w .if2 .left)
     (c .if3 .taken)
 
-is-marked-requires : tie.Need-is-marked-requires
-is-marked-requires c κs = search needs
-
 returns-4 : tie.Need-returns-4
 returns-4 c =
     let w = c .before .before .before in
@@ -68,5 +62,4 @@ returns-4 c =
     (c .before .if3 .left) _ (c .is-marked .ensures)
 
 pub is-kept-spec : {M : Type 1} → statement M
-is-kept-spec =
-    tie.close (tie.spec returns is-in-requires returns-2 returns-3 is-marked-requires returns-4)
+is-kept-spec = tie.close (tie.spec returns (λ c κs. search needs) returns-2 returns-3 (λ c κs. search needs) returns-4)

@@ -10,15 +10,6 @@ use Rattle.compact.proofs.is_marked.Tie as tie
 use Rattle.compact.proofs.mark_place.Reads as mark-place-reads
 use Rattle.column.proofs.is_in.Reads as is-in-reads
 
-mark-place-requires : tie.Need-mark-place-requires
-mark-place-requires c κs = search needs
-
-mul-result : tie.Need-mul-result
-mul-result c = search needs
-
-shared-slice-read-result : tie.Need-shared-slice-read-result
-shared-slice-read-result c = search needs
-
 returns : tie.Need-returns
 returns c =
     let m = c .before in
@@ -26,19 +17,6 @@ returns c =
     let a = s .args in
     ap (λ (x : ℕ). eqb (getD (now (a .marks)) x 0) (a .n)) (m .mark-place .ensures) ∙ s .pre .told (m .before .before .if1 .taken) (a .n) (m .before .if2 .taken)
 
-is-in-requires : tie.Need-is-in-requires
-is-in-requires c κs = search needs
-
-returns-2 : tie.Need-returns-2
-returns-2 c = search needs
-
 pub is-marked-spec : {M : Type 1} → statement M
 is-marked-spec =
-    tie.close
-    (tie.spec
-    mark-place-requires
-    mul-result
-    shared-slice-read-result
-    returns
-    is-in-requires
-    returns-2)
+    tie.close (tie.spec (λ c κs. search needs) (λ c. search needs) (λ c. search needs) returns (λ c κs. search needs) (λ c. search needs))

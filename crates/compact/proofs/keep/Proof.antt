@@ -76,27 +76,6 @@ abbrev μ-loop : tie.MeasureT-loop
 loop-holds : tie.Need-loop-holds Inv-loop μ-loop
 loop-holds c = (omega arith, refl, record { few = omega arith; count = refl; front = refl; back = refl })
 
-read-requires : tie.Need-read-requires Inv-loop μ-loop
-read-requires c κs = search needs
-
-is-kept-requires : tie.Need-is-kept-requires Inv-loop μ-loop
-is-kept-requires c κs = search needs
-
-raise-requires : tie.Need-raise-requires Inv-loop μ-loop
-raise-requires c κs = search needs
-
-append-requires : tie.Need-append-requires Inv-loop μ-loop
-append-requires c κs = search needs
-
-add-count : tie.Need-add-count Inv-loop μ-loop
-add-count c = search needs
-
-add-i : tie.Need-add-i Inv-loop μ-loop
-add-i c = search needs
-
-loop-less : tie.Need-loop-less Inv-loop μ-loop
-loop-less c = search needs
-
 loop-again : tie.Need-loop-again Inv-loop μ-loop
 loop-again c =
     let k = c .before in
@@ -135,18 +114,5 @@ returns c =
 
 pub keep-spec : {M : Type 1} → statement M
 keep-spec =
-    tie.close
-    (tie.spec
-    Inv-loop
-    μ-loop
-    loop-holds
-    read-requires
-    is-kept-requires
-    raise-requires
-    append-requires
-    add-count
-    add-i
-    loop-less
-    loop-again
-    same-length
-    returns)
+    tie.close (tie.spec Inv-loop μ-loop loop-holds (λ c κs. search needs) (λ c κs. search needs) (λ c κs. search needs) (λ c κs. search needs)
+    (λ c. search needs) (λ c. search needs) (λ c. search needs) loop-again same-length returns)

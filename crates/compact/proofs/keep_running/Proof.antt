@@ -11,50 +11,8 @@ use denote.Ref.{now}
 use Rattle.compact.proofs.keep_running.Statement.{statement}
 use Rattle.compact.proofs.keep_running.Tie as tie
 
-slice-aggregate-running-numbers : tie.Need-slice-aggregate-running-numbers
-slice-aggregate-running-numbers c = search needs
-
-running-numbers-requires : tie.Need-running-numbers-requires
-running-numbers-requires c κs = search needs
-
-slice-aggregate-late-numbers : tie.Need-slice-aggregate-late-numbers
-slice-aggregate-late-numbers c = search needs
-
-late-numbers-requires : tie.Need-late-numbers-requires
-late-numbers-requires c κs = search needs
-
-slice-aggregate-mark : tie.Need-slice-aggregate-mark
-slice-aggregate-mark c = search needs
-
-slice-aggregate-mark-2 : tie.Need-slice-aggregate-mark-2
-slice-aggregate-mark-2 c = search needs
-
 mark-requires : tie.Need-mark-requires
 mark-requires c κs = (omega (arith, c .before .before .before .late-numbers .ensures .few), refl)
-
-slice-aggregate-keep : tie.Need-slice-aggregate-keep
-slice-aggregate-keep c = search needs
-
-slice-aggregate-keep-2 : tie.Need-slice-aggregate-keep-2
-slice-aggregate-keep-2 c = search needs
-
-slice-aggregate-keep-3 : tie.Need-slice-aggregate-keep-3
-slice-aggregate-keep-3 c = search needs
-
-keep-requires : tie.Need-keep-requires
-keep-requires c κs = search needs
-
-mul-zero : tie.Need-mul-zero
-mul-zero c = search needs
-
-mul-zero-2 : tie.Need-mul-zero-2
-mul-zero-2 c = search needs
-
-zero-requires : tie.Need-zero-requires
-zero-requires c κs = search needs
-
-same-length : tie.Need-same-length
-same-length c = search needs
 
 returns : tie.Need-returns
 returns c =
@@ -69,21 +27,6 @@ returns c =
 
 pub keep-running-spec : {M : Type 1} → statement M
 keep-running-spec =
-    tie.close
-    (tie.spec
-    slice-aggregate-running-numbers
-    running-numbers-requires
-    slice-aggregate-late-numbers
-    late-numbers-requires
-    slice-aggregate-mark
-    slice-aggregate-mark-2
-    mark-requires
-    slice-aggregate-keep
-    slice-aggregate-keep-2
-    slice-aggregate-keep-3
-    keep-requires
-    mul-zero
-    mul-zero-2
-    zero-requires
-    same-length
-    returns)
+    tie.close (tie.spec (λ c. search needs) (λ c κs. search needs) (λ c. search needs) (λ c κs. search needs) (λ c. search needs) (λ c. search needs)
+    mark-requires (λ c. search needs) (λ c. search needs) (λ c. search needs) (λ c κs. search needs) (λ c. search needs) (λ c. search needs)
+    (λ c κs. search needs) (λ c. search needs) returns)

@@ -41,20 +41,8 @@ abbrev μ-loop : tie.MeasureT-loop
 loop-holds : tie.Need-loop-holds Inv-loop μ-loop
 loop-holds c = (omega arith, refl, no-marks _ (c .before .before .pre .1))
 
-mul-set-mark : tie.Need-mul-set-mark Inv-loop μ-loop
-mul-set-mark c = search needs
-
-shared-slice-read-set-mark : tie.Need-shared-slice-read-set-mark Inv-loop μ-loop
-shared-slice-read-set-mark c = search needs
-
 set-mark-requires : tie.Need-set-mark-requires Inv-loop μ-loop
 set-mark-requires c κs = c .before .before .before .loop .inv .2 .long
-
-add-i : tie.Need-add-i Inv-loop μ-loop
-add-i c = search needs
-
-loop-less : tie.Need-loop-less Inv-loop μ-loop
-loop-less c = search needs
 
 loop-again : tie.Need-loop-again Inv-loop μ-loop
 loop-again c =
@@ -83,16 +71,5 @@ returns c =
 
 pub mark-spec : {M : Type 1} → statement M
 mark-spec =
-    tie.close
-    (tie.spec
-    Inv-loop
-    μ-loop
-    loop-holds
-    mul-set-mark
-    shared-slice-read-set-mark
-    set-mark-requires
-    add-i
-    loop-less
-    loop-again
-    same-length
-    returns)
+    tie.close (tie.spec Inv-loop μ-loop loop-holds (λ c. search needs) (λ c. search needs) set-mark-requires (λ c. search needs) (λ c. search needs)
+    loop-again same-length returns)

@@ -7,21 +7,6 @@ use borrow.Author.Needs.{needs}
 use Rattle.host.proofs.begun.Statement.{statement}
 use Rattle.host.proofs.begun.Tie as tie
 
-enum-known-a : tie.Need-enum-known-a
-enum-known-a c = search needs
-
-cast-beside : tie.Need-cast-beside
-cast-beside c = search needs
-
-beside-requires : tie.Need-beside-requires
-beside-requires c κs = search needs
-
-enum-known-a-2 : tie.Need-enum-known-a-2
-enum-known-a-2 c = search needs
-
-refused-requires : tie.Need-refused-requires
-refused-requires c κs = search needs
-
 returns : tie.Need-returns
 returns c = c .beside .ensures ∙ sym (ap (λ (y : Begun). answerOf (ofBegun y)) (c .before .before .a .given .1))
 
@@ -30,12 +15,4 @@ returns-2 c = c .refused .ensures ∙ sym (ap (λ (y : Begun). answerOf (ofBegun
 
 pub begun-spec : {M : Type 1} → statement M
 begun-spec =
-    tie.close
-    (tie.spec
-    enum-known-a
-    cast-beside
-    beside-requires
-    enum-known-a-2
-    refused-requires
-    returns
-    returns-2)
+    tie.close (tie.spec (λ c. search needs) (λ c. search needs) (λ c κs. search needs) (λ c. search needs) (λ c κs. search needs) returns returns-2)

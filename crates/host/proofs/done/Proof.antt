@@ -7,18 +7,6 @@ use borrow.Author.Needs.{needs}
 use Rattle.host.proofs.done.Statement.{statement}
 use Rattle.host.proofs.done.Tie as tie
 
-enum-told : tie.Need-enum-told
-enum-told c = search needs
-
-alone-requires : tie.Need-alone-requires
-alone-requires c κs = search needs
-
-enum-known-a : tie.Need-enum-known-a
-enum-known-a c = search needs
-
-refused-requires : tie.Need-refused-requires
-refused-requires c κs = search needs
-
 returns : tie.Need-returns
 returns c = c .alone .ensures ∙ sym (ap (λ (y : Done). answerOf (ofDone y)) (c .before .enum-told .given .1))
 
@@ -26,5 +14,4 @@ returns-2 : tie.Need-returns-2
 returns-2 c = c .refused .ensures ∙ sym (ap (λ (y : Done). answerOf (ofDone y)) (c .before .before .a .given .1))
 
 pub done-spec : {M : Type 1} → statement M
-done-spec =
-    tie.close (tie.spec enum-told alone-requires enum-known-a refused-requires returns returns-2)
+done-spec = tie.close (tie.spec (λ c. search needs) (λ c κs. search needs) (λ c. search needs) (λ c κs. search needs) returns returns-2)

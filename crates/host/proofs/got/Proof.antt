@@ -8,30 +8,6 @@ use borrow.Author.Needs.{needs}
 use Rattle.host.proofs.got.Statement.{statement}
 use Rattle.host.proofs.got.Tie as tie
 
-enum-known-a : tie.Need-enum-known-a
-enum-known-a c = search needs
-
-enum-told : tie.Need-enum-told
-enum-told c = search needs
-
-alone-requires : tie.Need-alone-requires
-alone-requires c κs = search needs
-
-enum-known-v : tie.Need-enum-known-v
-enum-known-v c = search needs
-
-cast-beside : tie.Need-cast-beside
-cast-beside c = search needs
-
-beside-requires : tie.Need-beside-requires
-beside-requires c κs = search needs
-
-enum-known-a-2 : tie.Need-enum-known-a-2
-enum-known-a-2 c = search needs
-
-refused-requires : tie.Need-refused-requires
-refused-requires c κs = search needs
-
 returns : tie.Need-returns
 returns c =
     let told = c .before in
@@ -49,16 +25,5 @@ returns-3 c = c .refused .ensures ∙ sym (ap (λ (y : Got). answerOf (ofGot y))
 
 pub got-spec : {M : Type 1} → statement M
 got-spec =
-    tie.close
-    (tie.spec
-    enum-known-a
-    enum-told
-    alone-requires
-    enum-known-v
-    cast-beside
-    beside-requires
-    enum-known-a-2
-    refused-requires
-    returns
-    returns-2
-    returns-3)
+    tie.close (tie.spec (λ c. search needs) (λ c. search needs) (λ c κs. search needs) (λ c. search needs) (λ c. search needs) (λ c κs. search needs)
+    (λ c. search needs) (λ c κs. search needs) returns returns-2 returns-3)

@@ -37,21 +37,6 @@ unplaced (BadRecord i) k = absurd (miss twelve 12 tt k)
 placed : {x : Refusal} {i n : ℕ} {a : Answer} → a ≡ shown n (Present i) → n ≡ 13 → x ≡ BadRecord i → a ≡ answerOf (refused x)
 placed p q e = rw (p, q, e)
 
-enum-known-x : tie.Need-enum-known-x
-enum-known-x c = search needs
-
-number-requires : tie.Need-number-requires
-number-requires c κs = search needs
-
-beside-requires : tie.Need-beside-requires
-beside-requires c κs = search needs
-
-number-requires-2 : tie.Need-number-requires-2
-number-requires-2 c κs = search needs
-
-alone-requires : tie.Need-alone-requires
-alone-requires c κs = search needs
-
 returns : tie.Need-returns
 returns c =
     let found = c .before .before .before in
@@ -65,12 +50,5 @@ returns-2 c =
 
 pub refused-spec : {M : Type 1} → statement M
 refused-spec =
-    tie.close
-    (tie.spec
-    enum-known-x
-    number-requires
-    beside-requires
-    number-requires-2
-    alone-requires
-    returns
+    tie.close (tie.spec (λ c. search needs) (λ c κs. search needs) (λ c κs. search needs) (λ c κs. search needs) (λ c κs. search needs) returns
     returns-2)

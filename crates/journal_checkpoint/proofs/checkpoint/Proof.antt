@@ -60,12 +60,6 @@ module _ (t : ℕ) (h : Head) (keys values j : List ℕ) (z : isShaped h (length
       rw (q, g, i, w .count)
       (checkpoint-written t h keys values j z (ofDone a) d e n (w .count) _ keys' values' exit m refl (w .filled (omega (arith, w .count))) x)
 
-shaped-requires : tie.Need-shaped-requires
-shaped-requires c κs = search needs
-
-refused-requires : tie.Need-refused-requires
-refused-requires c κs = search needs
-
 returns : tie.Need-returns
 returns c =
     let sh = c .before .before in
@@ -80,18 +74,6 @@ decide-requires c κs =
     let a = sh .before .before .before .before .args in
     let z = sym (sh .shaped .ensures) ∙ not-false _ (e1 .if1 .left) in
     shape (a .h) (length (now (a .keys))) (length (now (a .values))) (length (now (a .journal))) z
-
-accepted-requires : tie.Need-accepted-requires
-accepted-requires c κs = search needs
-
-same-length : tie.Need-same-length
-same-length c = search needs
-
-same-length-2 : tie.Need-same-length-2
-same-length-2 c = search needs
-
-same-length-3 : tie.Need-same-length-3
-same-length-3 c = search needs
 
 returns-2 : tie.Need-returns-2
 returns-2 c =
@@ -113,9 +95,6 @@ next-requires c κs =
     let z = sym (sh .shaped .ensures) ∙ not-false _ (e1 .if1 .left) in
     shape (a .h) (length (now (a .keys))) (length (now (a .values))) (length (now (a .journal))) z .used
 
-row-room-requires : tie.Need-row-room-requires
-row-room-requires c κs = search needs
-
 settle-requires : tie.Need-settle-requires
 settle-requires c κs =
     let dc = c .before .before .before .before .before .before .before .before in
@@ -124,18 +103,6 @@ settle-requires c κs =
     let a = sh .before .before .before .before .args in
     let z = sym (sh .shaped .ensures) ∙ not-false _ (e1 .if1 .left) in
     lent (a .h) (now (a .keys)) (now (a .values)) (now (a .journal)) (shape (a .h) (length (now (a .keys))) (length (now (a .values))) (length (now (a .journal))) z)
-
-refused-requires-2 : tie.Need-refused-requires-2
-refused-requires-2 c κs = search needs
-
-same-length-4 : tie.Need-same-length-4
-same-length-4 c = search needs
-
-same-length-5 : tie.Need-same-length-5
-same-length-5 c = search needs
-
-same-length-6 : tie.Need-same-length-6
-same-length-6 c = search needs
 
 returns-3 : tie.Need-returns-3
 returns-3 c =
@@ -162,15 +129,6 @@ keep-running-requires c κs =
     let s = shape (a .h) (length (now (a .keys))) (length (now (a .values))) (length (now (a .journal))) z in
     (s .usedLimit, s .used)
 
-same-length-7 : tie.Need-same-length-7
-same-length-7 c = search needs
-
-same-length-8 : tie.Need-same-length-8
-same-length-8 c = search needs
-
-same-length-9 : tie.Need-same-length-9
-same-length-9 c = search needs
-
 returns-4 : tie.Need-returns-4
 returns-4 c =
     let kr = c .before .before in
@@ -191,27 +149,7 @@ returns-4 c =
 
 pub checkpoint-spec : {M : Type 1} → statement M
 checkpoint-spec =
-    tie.close
-    (tie.spec
-    shaped-requires
-    refused-requires
-    returns
-    decide-requires
-    accepted-requires
-    same-length
-    same-length-2
-    same-length-3
-    returns-2
-    next-requires
-    row-room-requires
-    settle-requires
-    refused-requires-2
-    same-length-4
-    same-length-5
-    same-length-6
-    returns-3
-    keep-running-requires
-    same-length-7
-    same-length-8
-    same-length-9
-    returns-4)
+    tie.close (tie.spec (λ c κs. search needs) (λ c κs. search needs) returns decide-requires (λ c κs. search needs) (λ c. search needs)
+    (λ c. search needs) (λ c. search needs) returns-2 next-requires (λ c κs. search needs) settle-requires (λ c κs. search needs)
+    (λ c. search needs) (λ c. search needs) (λ c. search needs) returns-3 keep-running-requires (λ c. search needs) (λ c. search needs)
+    (λ c. search needs) returns-4)

@@ -11,18 +11,12 @@ returns c =
     let a = c .before .before .before .before .before .args in
     checkpoint-old (a .t) (meaning (a .h) (now (a .keys)) (now (a .values)) (now (a .journal))) (c .if1 .taken)
 
-is-future-requires : tie.Need-is-future-requires
-is-future-requires c κs = search needs
-
 returns-2 : tie.Need-returns-2
 returns-2 c =
     let la = c .before in
     let e1 = la .before in
     let a = e1 .before .before .before .before .before .args in
     checkpoint-future (a .t) (meaning (a .h) (now (a .keys)) (now (a .values)) (now (a .journal))) (e1 .if1 .left) _ (la .is-future .ensures) (c .if2 .taken)
-
-held-requires : tie.Need-held-requires
-held-requires c κs = search needs
 
 returns-3 : tie.Need-returns-3
 returns-3 c =
@@ -45,5 +39,4 @@ returns-4 c =
     (he .held .ensures) (c .if3 .left)
 
 pub decide-spec : {M : Type 1} → statement M
-decide-spec =
-    tie.close (tie.spec returns is-future-requires returns-2 held-requires returns-3 returns-4)
+decide-spec = tie.close (tie.spec returns (λ c κs. search needs) returns-2 (λ c κs. search needs) returns-3 returns-4)

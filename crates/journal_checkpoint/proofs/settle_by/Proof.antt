@@ -32,24 +32,6 @@ module _ (room : ℕ) (rows : List Row) (keys values aside beside aside' beside'
         left = λ k. absurd (omega (arith, w .count));
       }
 
-listing-requires : tie.Need-listing-requires
-listing-requires c κs = search needs
-
-row-room-requires : tie.Need-row-room-requires
-row-room-requires c κs = search needs
-
-same-length : tie.Need-same-length
-same-length c = search needs
-
-same-length-2 : tie.Need-same-length-2
-same-length-2 c = search needs
-
-same-length-3 : tie.Need-same-length-3
-same-length-3 c = search needs
-
-same-length-4 : tie.Need-same-length-4
-same-length-4 c = search needs
-
 returns : tie.Need-returns
 returns c =
     let ro = c .before in
@@ -74,18 +56,6 @@ copy-requires-2 c κs =
     let a = s .args in
     (next-within _ _ _ _ _ _ (w .listing .ensures) .in-values, omega (arith, ro .row-room .ensures, e .if1 .left, s .pre .2, min-le-right 512 (length (now (a .keys)))))
 
-same-length-5 : tie.Need-same-length-5
-same-length-5 c = search needs
-
-same-length-6 : tie.Need-same-length-6
-same-length-6 c = search needs
-
-same-length-7 : tie.Need-same-length-7
-same-length-7 c = search needs
-
-same-length-8 : tie.Need-same-length-8
-same-length-8 c = search needs
-
 returns-2 : tie.Need-returns-2
 returns-2 c =
     let d = c .before .before in
@@ -99,19 +69,5 @@ returns-2 c =
 
 pub settle-by-spec : {M : Type 1} → statement M
 settle-by-spec =
-    tie.close
-    (tie.spec
-    listing-requires
-    row-room-requires
-    same-length
-    same-length-2
-    same-length-3
-    same-length-4
-    returns
-    copy-requires
-    copy-requires-2
-    same-length-5
-    same-length-6
-    same-length-7
-    same-length-8
-    returns-2)
+    tie.close (tie.spec (λ c κs. search needs) (λ c κs. search needs) (λ c. search needs) (λ c. search needs) (λ c. search needs) (λ c. search needs)
+    returns copy-requires copy-requires-2 (λ c. search needs) (λ c. search needs) (λ c. search needs) (λ c. search needs) returns-2)

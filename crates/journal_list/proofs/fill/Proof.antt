@@ -72,12 +72,6 @@ listing-requires c κs =
       record { paired = sym p; enough = e .if1 .taken },
     )
 
-same-length : tie.Need-same-length
-same-length c = search needs
-
-same-length-2 : tie.Need-same-length-2
-same-length-2 c = search needs
-
 returns : tie.Need-returns
 returns c =
     let w = c .before .before .before .before in
@@ -88,12 +82,6 @@ returns c =
     let p = next-within _ _ _ _ _ _ v in
     made (a .h) (now (a .keys)) (now (a .values)) (now (a .journal)) (a .t) (now (a .listed)) (now (a .contents)) (s .pre .0) (s .pre .1) (s .pre .2) _ (v .count) _ _
     (omega (arith, p .in-keys, v .keys-long)) (next-filled _ _ _ _ _ _ v)
-
-slice-aggregate-listing : tie.Need-slice-aggregate-listing
-slice-aggregate-listing c = search needs
-
-slice-aggregate-listing-2 : tie.Need-slice-aggregate-listing-2
-slice-aggregate-listing-2 c = search needs
 
 listing-requires-2 : tie.Need-listing-requires-2
 listing-requires-2 c κs =
@@ -112,17 +100,11 @@ returns-2 c =
     let a = s .args in
     full (a .h) (now (a .keys)) (now (a .values)) (now (a .journal)) (a .t) (now (a .listed)) (now (a .contents)) (s .pre .0) (s .pre .1) (s .pre .2) _ (w .listing2 .ensures .count) (c .if2 .taken)
 
-slice-aggregate-copy : tie.Need-slice-aggregate-copy
-slice-aggregate-copy c = search needs
-
 copy-requires : tie.Need-copy-requires
 copy-requires c κs =
     let e = c .before .before in
     let w = e .before .before .before in
     (next-within _ _ _ _ _ _ (w .listing2 .ensures) .in-keys, omega (arith, e .if2 .left))
-
-slice-aggregate-copy-2 : tie.Need-slice-aggregate-copy-2
-slice-aggregate-copy-2 c = search needs
 
 copy-requires-2 : tie.Need-copy-requires-2
 copy-requires-2 c κs =
@@ -132,12 +114,6 @@ copy-requires-2 c κs =
     let a = s .args in
     let p = paired (a .h) (now (a .keys)) (now (a .values)) (now (a .journal)) (a .t) (now (a .listed)) (now (a .contents)) (s .pre .0) in
     (next-within _ _ _ _ _ _ (w .listing2 .ensures) .in-values, omega (arith, e .if2 .left))
-
-same-length-3 : tie.Need-same-length-3
-same-length-3 c = search needs
-
-same-length-4 : tie.Need-same-length-4
-same-length-4 c = search needs
 
 returns-3 : tie.Need-returns-3
 returns-3 c =
@@ -153,21 +129,6 @@ returns-3 c =
 
 pub fill-spec : {M : Type 1} → statement M
 fill-spec =
-    tie.close
-    (tie.spec
-    add-if1
-    listing-requires
-    same-length
-    same-length-2
-    returns
-    slice-aggregate-listing
-    slice-aggregate-listing-2
-    listing-requires-2
-    returns-2
-    slice-aggregate-copy
-    copy-requires
-    slice-aggregate-copy-2
-    copy-requires-2
-    same-length-3
-    same-length-4
+    tie.close (tie.spec add-if1 listing-requires (λ c. search needs) (λ c. search needs) returns (λ c. search needs) (λ c. search needs)
+    listing-requires-2 returns-2 (λ c. search needs) copy-requires (λ c. search needs) copy-requires-2 (λ c. search needs) (λ c. search needs)
     returns-3)

@@ -32,9 +32,6 @@ module _ (h : Head) (keys values j : List ℕ) (t : ℕ) (listed contents : List
   future f l p q =
       list-refused h keys values j t listed contents e (refused Future) (list-future (length listed) t (meaning h keys values j) l f p q) refl
 
-shaped-requires : tie.Need-shaped-requires
-shaped-requires c κs = search needs
-
 returns : tie.Need-returns
 returns c =
     let sh = c .before in
@@ -75,25 +72,7 @@ fill-requires c κs =
     let sh = e1 .before in
     (sym (sh .shaped .ensures) ∙ not-false _ (e1 .if1 .left), e2 .if2 .left, sym (f .is-future .ensures) ∙ e3 .if3 .left)
 
-same-length : tie.Need-same-length
-same-length c = search needs
-
-same-length-2 : tie.Need-same-length-2
-same-length-2 c = search needs
-
-returns-4 : tie.Need-returns-4
-returns-4 c = search needs
-
 pub list-spec : {M : Type 1} → statement M
 list-spec =
-    tie.close
-    (tie.spec
-    shaped-requires
-    returns
-    returns-2
-    is-future-requires
-    returns-3
-    fill-requires
-    same-length
-    same-length-2
-    returns-4)
+    tie.close (tie.spec (λ c κs. search needs) returns returns-2 is-future-requires returns-3 fill-requires (λ c. search needs) (λ c. search needs)
+    (λ c. search needs))

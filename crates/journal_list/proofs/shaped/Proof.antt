@@ -7,11 +7,8 @@ use Rattle.journal_list.proofs.shaped.Tie as tie
 returns : tie.Need-returns
 returns c = rw (ne-eqb _ _ (c .if1 .taken))
 
-shaped-requires : tie.Need-shaped-requires
-shaped-requires c κs = search needs
-
 returns-2 : tie.Need-returns-2
 returns-2 c = rw (eq-eqb _ _ (c .before .if1 .left)) (c .shaped .ensures)
 
 pub shaped-spec : {M : Type 1} → statement M
-shaped-spec = tie.close (tie.spec returns shaped-requires returns-2)
+shaped-spec = tie.close (tie.spec returns (λ c κs. search needs) returns-2)

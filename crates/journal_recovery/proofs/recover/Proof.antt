@@ -14,9 +14,6 @@ use denote.Ref.{now}
 use Rattle.journal_recovery.proofs.recover.Statement.{statement}
 use Rattle.journal_recovery.proofs.recover.Tie as tie
 
-shaped-requires : tie.Need-shaped-requires
-shaped-requires c κs = search needs
-
 returns : tie.Need-returns
 returns c =
     let sh = c .before in
@@ -31,12 +28,6 @@ walk-requires c κs =
     let z = sym (sh .shaped .ensures) ∙ not-false _ (e1 .if1 .left) in
     let q = recoverable (a .h) (now (a .keys)) (length (now (a .values))) (length (now (a .journal))) (a .survived) z in
     (q .few, omega (arith, q .there, q .within))
-
-enum-known-walked : tie.Need-enum-known-walked
-enum-known-walked c = search needs
-
-enum-told : tie.Need-enum-told
-enum-told c = search needs
 
 next-requires : tie.Need-next-requires
 next-requires c κs =
@@ -59,9 +50,6 @@ keep-done-requires c κs =
     let q = recoverable (a .h) (now (a .keys)) (length (now (a .values))) (length (now (a .journal))) (a .survived) z in
     (q .few, q .there, q .within, walk-whole (a .h .low) (surviving (a .survived) (now (a .journal))) (sym (wk .walk .ensures) ∙ et .enum-told .given .1))
 
-same-length : tie.Need-same-length
-same-length c = search needs
-
 returns-2 : tie.Need-returns-2
 returns-2 c =
     let wd = c .before in
@@ -71,9 +59,6 @@ returns-2 c =
     let a = sh .before .before .before .before .args in
     let z = sym (sh .shaped .ensures) ∙ not-false _ (e1 .if1 .left) in
     recover-refused (a .h) (now (a .keys)) (now (a .values)) (now (a .journal)) (a .survived) z _ (wk .walk .ensures) _ (wd .walked .given .1)
-
-same-length-2 : tie.Need-same-length-2
-same-length-2 c = search needs
 
 returns-3 : tie.Need-returns-3
 returns-3 c =
@@ -90,16 +75,5 @@ returns-3 c =
 
 pub recover-spec : {M : Type 1} → statement M
 recover-spec =
-    tie.close
-    (tie.spec
-    shaped-requires
-    returns
-    walk-requires
-    enum-known-walked
-    enum-told
-    next-requires
-    keep-done-requires
-    same-length
-    returns-2
-    same-length-2
-    returns-3)
+    tie.close (tie.spec (λ c κs. search needs) returns walk-requires (λ c. search needs) (λ c. search needs) next-requires keep-done-requires
+    (λ c. search needs) returns-2 (λ c. search needs) returns-3)

@@ -13,9 +13,6 @@ returns-2 c = rw (le-leb _ _ (c .before .if1 .left), lt-leb _ _ (c .if2 .taken))
 returns-3 : tie.Need-returns-3
 returns-3 c = rw (le-leb _ _ (c .before .before .if1 .left), le-leb _ _ (c .before .if2 .left), ne-eqb _ _ (c .if3 .taken))
 
-mul-if4 : tie.Need-mul-if4
-mul-if4 c = search needs
-
 returns-4 : tie.Need-returns-4
 returns-4 c =
     let e3 = c .before in
@@ -40,9 +37,6 @@ returns-6 c =
     let e1 = e2 .before in
     rw (le-leb _ _ (e1 .if1 .left), le-leb _ _ (e2 .if2 .left), eq-eqb _ _ (e3 .if3 .left), le-leb _ _ (e4 .if4 .left), le-leb _ _ (e5 .if5 .left), eq-eqb _ _ (c .if6 .taken))
 
-rises-requires : tie.Need-rises-requires
-rises-requires c κs = search needs
-
 returns-7 : tie.Need-returns-7
 returns-7 c =
     let e5 = c .before .before .before in
@@ -53,15 +47,4 @@ returns-7 c =
     rw (le-leb _ _ (e1 .if1 .left), le-leb _ _ (e2 .if2 .left), eq-eqb _ _ (e3 .if3 .left), le-leb _ _ (e4 .if4 .left), le-leb _ _ (e5 .if5 .left), ne-eqb _ _ (c .before .if6 .left)) (c .rises .ensures)
 
 pub shaped-spec : {M : Type 1} → statement M
-shaped-spec =
-    tie.close
-    (tie.spec
-    returns
-    returns-2
-    returns-3
-    mul-if4
-    returns-4
-    returns-5
-    returns-6
-    rises-requires
-    returns-7)
+shaped-spec = tie.close (tie.spec returns returns-2 returns-3 (λ c. search needs) returns-4 returns-5 returns-6 (λ c κs. search needs) returns-7)

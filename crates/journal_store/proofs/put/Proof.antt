@@ -28,9 +28,6 @@ longer-requires c κs =
     let t = c .before .before .before .before in
     t .before .before .pre (t .if1 .taken) .0
 
-same-length : tie.Need-same-length
-same-length c = search needs
-
 returns : tie.Need-returns
 returns c =
     let p = c .before .before .before in
@@ -44,4 +41,4 @@ returns-2 c =
     left (a .h) _ (now (a .journal)) _ (a .accepted) (a .r) (c .if1 .left) refl refl
 
 pub put-spec : {M : Type 1} → statement M
-put-spec = tie.close (tie.spec append-requires longer-requires same-length returns returns-2)
+put-spec = tie.close (tie.spec append-requires longer-requires (λ c. search needs) returns returns-2)

@@ -15,12 +15,6 @@ use Rattle.map_checkpoint.specs.Checkpoint.{checkpoint-bad-shape, checkp
 use Rattle.map_checkpoint.proofs.checkpoint.Statement.{statement}
 use Rattle.map_checkpoint.proofs.checkpoint.Tie as tie
 
-shaped-requires : tie.Need-shaped-requires
-shaped-requires c κs = search needs
-
-refused-requires : tie.Need-refused-requires
-refused-requires c κs = search needs
-
 returns : tie.Need-returns
 returns c =
     let t1 = c .before in
@@ -29,9 +23,6 @@ returns c =
     let cs = columns (now (a .keys)) (now (a .times)) (now (a .values)) in
     rw (c .refused .ensures .0, c .refused .ensures .1)
     (checkpoint-bad-shape (a .t) (a .h) cs (sym (sh .shaped .ensures .0) ∙ not-true _ (t1 .if1 .taken)))
-
-refused-requires-2 : tie.Need-refused-requires-2
-refused-requires-2 c κs = search needs
 
 returns-2 : tie.Need-returns-2
 returns-2 c =
@@ -44,9 +35,6 @@ returns-2 c =
     checkpoint-turned-down (a .t) (a .h) cs (sym (sh .shaped .ensures .0) ∙ not-false _ (e1 .if1 .left)) _
     TooOld (c .refused2 .ensures) (say 4 (checkpointRefusal (a .t) m) Absent (time-old m (a .t) _ (t2 .if2 .taken)))
 
-refused-requires-3 : tie.Need-refused-requires-3
-refused-requires-3 c κs = search needs
-
 returns-3 : tie.Need-returns-3
 returns-3 c =
     let t3 = c .before in
@@ -58,12 +46,6 @@ returns-3 c =
     let m = meaning (a .h) cs in
     checkpoint-turned-down (a .t) (a .h) cs (sym (sh .shaped .ensures .0) ∙ not-false _ (e1 .if1 .left)) _
     Future (c .refused3 .ensures) (say 5 (checkpointRefusal (a .t) m) Absent (time-future m (a .t) _ (e2 .if2 .left) (t3 .if3 .taken)))
-
-holds-requires : tie.Need-holds-requires
-holds-requires c κs = search needs
-
-refused-requires-4 : tie.Need-refused-requires-4
-refused-requires-4 c κs = search needs
 
 returns-4 : tie.Need-returns-4
 returns-4 c =
@@ -91,15 +73,6 @@ keep-from-requires c κs =
     let w = sh .shaped .ensures .1 (not-false _ (e1 .if1 .left)) in
     (lent (a .h) cs w, w .limit)
 
-same-length : tie.Need-same-length
-same-length c = search needs
-
-same-length-2 : tie.Need-same-length-2
-same-length-2 c = search needs
-
-same-length-3 : tie.Need-same-length-3
-same-length-3 c = search needs
-
 returns-5 : tie.Need-returns-5
 returns-5 c =
     let kf = c .before .before .before .before .before .before in
@@ -119,20 +92,5 @@ returns-5 c =
 
 pub checkpoint-spec : {M : Type 1} → statement M
 checkpoint-spec =
-    tie.close
-    (tie.spec
-    shaped-requires
-    refused-requires
-    returns
-    refused-requires-2
-    returns-2
-    refused-requires-3
-    returns-3
-    holds-requires
-    refused-requires-4
-    returns-4
-    keep-from-requires
-    same-length
-    same-length-2
-    same-length-3
-    returns-5)
+    tie.close (tie.spec (λ c κs. search needs) (λ c κs. search needs) returns (λ c κs. search needs) returns-2 (λ c κs. search needs) returns-3
+    (λ c κs. search needs) (λ c κs. search needs) returns-4 keep-from-requires (λ c. search needs) (λ c. search needs) (λ c. search needs) returns-5)

@@ -38,12 +38,6 @@ freed n t h cs cs' f e i g r w z q =
       cells = rw (sym e ∙ g) (w .cells);
     }
 
-shaped-requires : tie.Need-shaped-requires
-shaped-requires c κs = search needs
-
-refused-requires : tie.Need-refused-requires
-refused-requires c κs = search needs
-
 returns : tie.Need-returns
 returns c =
     let t1 = c .before in
@@ -52,18 +46,6 @@ returns c =
     let cs = columns (now (a .keys)) (now (a .times)) (now (a .values)) in
     rw (c .refused .ensures .0, c .refused .ensures .1)
     (commit-bad-shape (a .n) (a .t) (a .h) cs (sym (sh .shaped .ensures .0) ∙ not-true _ (t1 .if1 .taken)))
-
-find-requires : tie.Need-find-requires
-find-requires c κs = search needs
-
-enum-known-found : tie.Need-enum-known-found
-enum-known-found c = search needs
-
-enum-told : tie.Need-enum-told
-enum-told c = search needs
-
-refused-requires-2 : tie.Need-refused-requires-2
-refused-requires-2 c κs = search needs
 
 returns-2 : tie.Need-returns-2
 returns-2 c =
@@ -78,9 +60,6 @@ returns-2 c =
     UnknownTransaction (c .refused2 .ensures)
     (say 2 (mapAnswer (roomOf (length (now (a .keys)))) (Commit (a .n) (a .t)) m) Absent
     (commit-unknown m (a .n) (place-none (a .h .slots) (a .n) _ (fd .find .ensures .0) (et .enum-told .given .1)) (roomOf (length (now (a .keys)))) (a .t)))
-
-refused-requires-3 : tie.Need-refused-requires-3
-refused-requires-3 c κs = search needs
 
 returns-3 : tie.Need-returns-3
 returns-3 c =
@@ -122,15 +101,6 @@ conflicts-requires c κs =
     let l = lent (a .h) cs w in
     (rowed-found (a .h .slots) (a .n) _ (fd .find .ensures .0) _ (fo .found .given .1) (w .formed), l .keys, l .times)
 
-refused-requires-4 : tie.Need-refused-requires-4
-refused-requires-4 c κs = search needs
-
-same-length : tie.Need-same-length
-same-length c = search needs
-
-same-length-2 : tie.Need-same-length-2
-same-length-2 c = search needs
-
 returns-4 : tie.Need-returns-4
 returns-4 c =
     let t3 = c .before in
@@ -148,9 +118,6 @@ returns-4 c =
     (say 11 (mapAnswer (roomOf (length (now (a .keys)))) (Commit (a .n) (a .t)) m) Absent
     (commit-conflict m (a .n) _ _ _ (place-found (a .h .slots) (a .n) _ (fd .find .ensures .0) _ (fo .found .given .1)) (roomOf (length (now (a .keys)))) (a .t) (e2 .if2 .left) _
     (co .conflicts .ensures cs) (t3 .if3 .taken)))
-
-room-requires : tie.Need-room-requires
-room-requires c κs = search needs
 
 count-written-requires : tie.Need-count-written-requires
 count-written-requires c κs =
@@ -176,15 +143,6 @@ add-if4 c =
     let s = slotAt (a .h .slots) (fo .found .given .0 .0) in
     let r = rowed-found (a .h .slots) (a .n) _ (fd .find .ensures .0) _ (fo .found .given .1) (w .formed) in
     omega (arith, cw .count-written .ensures, length-firsts (slotRows s), length-rows (s .keys) (s .values) (s .count), r .count, w .limit)
-
-refused-requires-5 : tie.Need-refused-requires-5
-refused-requires-5 c κs = search needs
-
-same-length-3 : tie.Need-same-length-3
-same-length-3 c = search needs
-
-same-length-4 : tie.Need-same-length-4
-same-length-4 c = search needs
 
 returns-5 : tie.Need-returns-5
 returns-5 c =
@@ -235,15 +193,6 @@ closed-requires c κs =
     let fd = fo .before .before in
     fd .find .ensures .1 (fo .found .given .0 .0) (fo .found .given .1)
 
-same-length-5 : tie.Need-same-length-5
-same-length-5 c = search needs
-
-same-length-6 : tie.Need-same-length-6
-same-length-6 c = search needs
-
-same-length-7 : tie.Need-same-length-7
-same-length-7 c = search needs
-
 returns-6 : tie.Need-returns-6
 returns-6 c =
     let sp = c .before .before .before .before .before .before .before in
@@ -271,35 +220,8 @@ returns-6 c =
 
 pub commit-spec : {M : Type 1} → statement M
 commit-spec =
-    tie.close
-    (tie.spec
-    shaped-requires
-    refused-requires
-    returns
-    find-requires
-    enum-known-found
-    enum-told
-    refused-requires-2
-    returns-2
-    refused-requires-3
-    returns-3
-    mul-s
-    element-copy-out-s
-    conflicts-requires
-    refused-requires-4
-    same-length
-    same-length-2
-    returns-4
-    room-requires
-    count-written-requires
-    add-if4
-    refused-requires-5
-    same-length-3
-    same-length-4
-    returns-5
-    stamp-requires
-    closed-requires
-    same-length-5
-    same-length-6
-    same-length-7
+    tie.close (tie.spec (λ c κs. search needs) (λ c κs. search needs) returns (λ c κs. search needs) (λ c. search needs) (λ c. search needs)
+    (λ c κs. search needs) returns-2 (λ c κs. search needs) returns-3 mul-s element-copy-out-s conflicts-requires (λ c κs. search needs)
+    (λ c. search needs) (λ c. search needs) returns-4 (λ c κs. search needs) count-written-requires add-if4 (λ c κs. search needs)
+    (λ c. search needs) (λ c. search needs) returns-5 stamp-requires closed-requires (λ c. search needs) (λ c. search needs) (λ c. search needs)
     returns-6)

@@ -28,9 +28,6 @@ Inv-loop s keys times used written rows from i₀ i = (i ≤ rows) × ((others :
 abbrev μ-loop : tie.MeasureT-loop
 μ-loop s keys times used written rows from i₀ i = rows - i
 
-first-late-requires : tie.Need-first-late-requires Inv-loop μ-loop
-first-late-requires c κs = search needs
-
 loop-holds : tie.Need-loop-holds Inv-loop μ-loop
 loop-holds c = (omega arith, λ others. refl)
 
@@ -68,9 +65,6 @@ add-i c =
     let st = lt .before .before .before .before .before .before in
     omega (arith, lt .loop-test .taken, st .pre .0 .count)
 
-loop-less : tie.Need-loop-less Inv-loop μ-loop
-loop-less c = search needs
-
 loop-again : tie.Need-loop-again Inv-loop μ-loop
 loop-again c =
     let il = c .before in
@@ -93,17 +87,5 @@ returns-2 c =
 
 pub conflicts-spec : {M : Type 1} → statement M
 conflicts-spec =
-    tie.close
-    (tie.spec
-    Inv-loop
-    μ-loop
-    first-late-requires
-    loop-holds
-    mul-is-later
-    array-read-is-later
-    is-later-requires
-    returns
-    add-i
-    loop-less
-    loop-again
-    returns-2)
+    tie.close (tie.spec Inv-loop μ-loop (λ c κs. search needs) loop-holds mul-is-later array-read-is-later is-later-requires returns add-i
+    (λ c. search needs) loop-again returns-2)

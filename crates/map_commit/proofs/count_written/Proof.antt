@@ -46,9 +46,6 @@ add-i c =
     let st = lt .before .before in
     omega (arith, lt .loop-test .taken, st .pre .count)
 
-loop-less : tie.Need-loop-less Inv-loop μ-loop
-loop-less c = search needs
-
 loop-again : tie.Need-loop-again Inv-loop μ-loop
 loop-again c =
     let fi = c .before in
@@ -68,15 +65,4 @@ returns c =
     rw e at (lp .loop .inv .2)
 
 pub count-written-spec : {M : Type 1} → statement M
-count-written-spec =
-    tie.close
-    (tie.spec
-    Inv-loop
-    μ-loop
-    loop-holds
-    is-first-requires
-    add-count
-    add-i
-    loop-less
-    loop-again
-    returns)
+count-written-spec = tie.close (tie.spec Inv-loop μ-loop loop-holds is-first-requires add-count add-i (λ c. search needs) loop-again returns)

@@ -21,24 +21,6 @@ module _ (s : Slot) (w : Rowed s) (i : ℕ) (l : i < s .count) (f : Found) (e : 
   first : f ≡ Nothing → true ≡ not (hasKey (getD (s .keys) i 0) (rowsOf (s .keys) (s .values) i))
   first g = rw (has-before s w i (getD (s .keys) i 0) l, sym e ∙ g)
 
-mul-k : tie.Need-mul-k
-mul-k c = search needs
-
-array-read-k : tie.Need-array-read-k
-array-read-k c = search needs
-
-slice-aggregate-find : tie.Need-slice-aggregate-find
-slice-aggregate-find c = search needs
-
-find-requires : tie.Need-find-requires
-find-requires c κs = search needs
-
-enum-told : tie.Need-enum-told
-enum-told c = search needs
-
-enum-told-2 : tie.Need-enum-told-2
-enum-told-2 c = search needs
-
 returns : tie.Need-returns
 returns c =
     let fd = c .before .before in
@@ -53,13 +35,5 @@ returns-2 c =
 
 pub is-first-spec : {M : Type 1} → statement M
 is-first-spec =
-    tie.close
-    (tie.spec
-    mul-k
-    array-read-k
-    slice-aggregate-find
-    find-requires
-    enum-told
-    enum-told-2
-    returns
-    returns-2)
+    tie.close (tie.spec (λ c. search needs) (λ c. search needs) (λ c. search needs) (λ c κs. search needs) (λ c. search needs) (λ c. search needs)
+    returns returns-2)

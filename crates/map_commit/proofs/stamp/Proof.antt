@@ -108,9 +108,6 @@ add-i c =
     let st = lt .before .before .before .before .before .before .before in
     omega (arith, lt .loop-test .taken, st .pre .0 .count)
 
-loop-less : tie.Need-loop-less Inv-loop μ-loop
-loop-less c = search needs
-
 loop-again : tie.Need-loop-again Inv-loop μ-loop
 loop-again c =
     let fi = c .before in
@@ -153,22 +150,5 @@ returns c =
 
 pub stamp-spec : {M : Type 1} → statement M
 stamp-spec =
-    tie.close
-    (tie.spec
-    Inv-loop
-    μ-loop
-    loop-holds
-    is-first-requires
-    mul-append
-    array-read-append
-    mul-append-2
-    array-read-append-2
-    append-requires
-    add-at
-    add-i
-    loop-less
-    loop-again
-    same-length
-    same-length-2
-    same-length-3
-    returns)
+    tie.close (tie.spec Inv-loop μ-loop loop-holds is-first-requires mul-append array-read-append mul-append-2 array-read-append-2 append-requires
+    add-at add-i (λ c. search needs) loop-again same-length same-length-2 same-length-3 returns)

@@ -22,9 +22,6 @@ returns c =
     let cs = columns (now (a .keys)) (now (a .times)) (now (a .values)) in
     list-unpaired (a .t) (a .h) cs (now (a .out-keys)) (now (a .out-values)) (ne-eqb _ _ (c .if1 .taken))
 
-shaped-requires : tie.Need-shaped-requires
-shaped-requires c κs = search needs
-
 returns-2 : tie.Need-returns-2
 returns-2 c =
     let sh = c .before in
@@ -72,12 +69,6 @@ write-any-requires c κs =
     let s = sh .shaped .ensures .1 (not-false _ (e2 .if2 .left)) in
     (lent (a .h) cs s, s .limit, e1 .if1 .left)
 
-same-length : tie.Need-same-length
-same-length c = search needs
-
-same-length-2 : tie.Need-same-length-2
-same-length-2 c = search needs
-
 returns-5 : tie.Need-returns-5
 returns-5 c =
     let w = c .before .before .before .before in
@@ -93,14 +84,5 @@ returns-5 c =
 
 pub list-spec : {M : Type 1} → statement M
 list-spec =
-    tie.close
-    (tie.spec
-    returns
-    shaped-requires
-    returns-2
-    returns-3
-    returns-4
-    write-any-requires
-    same-length
-    same-length-2
+    tie.close (tie.spec returns (λ c κs. search needs) returns-2 returns-3 returns-4 write-any-requires (λ c. search needs) (λ c. search needs)
     returns-5)

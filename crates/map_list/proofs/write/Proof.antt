@@ -39,15 +39,6 @@ module _ (rows : List Row) (oks ovs : List ℕ) {a b a' b' : List ℕ} {n : ℕ}
         written = record { keys = f .keys-column; values = f .values-column };
       }
 
-listing-requires : tie.Need-listing-requires
-listing-requires c κs = search needs
-
-same-length : tie.Need-same-length
-same-length c = search needs
-
-same-length-2 : tie.Need-same-length-2
-same-length-2 c = search needs
-
 returns : tie.Need-returns
 returns c =
     let g = c .before .before .before .before .before in
@@ -67,18 +58,6 @@ copy-requires-2 c κs =
     let g = e .before .before .before .before .before in
     (next-within _ _ _ _ _ _ (g .listing .ensures) .in-values, omega (arith, e .if1 .left))
 
-same-length-3 : tie.Need-same-length-3
-same-length-3 c = search needs
-
-same-length-4 : tie.Need-same-length-4
-same-length-4 c = search needs
-
-same-length-5 : tie.Need-same-length-5
-same-length-5 c = search needs
-
-same-length-6 : tie.Need-same-length-6
-same-length-6 c = search needs
-
 returns-2 : tie.Need-returns-2
 returns-2 c =
     let v = c .before .before in
@@ -92,16 +71,5 @@ returns-2 c =
 
 pub write-spec : {M : Type 1} → statement M
 write-spec =
-    tie.close
-    (tie.spec
-    listing-requires
-    same-length
-    same-length-2
-    returns
-    copy-requires
-    copy-requires-2
-    same-length-3
-    same-length-4
-    same-length-5
-    same-length-6
-    returns-2)
+    tie.close (tie.spec (λ c κs. search needs) (λ c. search needs) (λ c. search needs) returns copy-requires copy-requires-2 (λ c. search needs)
+    (λ c. search needs) (λ c. search needs) (λ c. search needs) returns-2)

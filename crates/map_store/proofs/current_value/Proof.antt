@@ -28,12 +28,6 @@ module _ (s : Slot) (w : Rowed s) (k : ℕ) (vs : List Version) (f : Found) (e :
   seen : f ≡ Nothing → (v : Value) → v ≡ valueAt k (s .snapshot) vs → v ≡ current k (s .snapshot) (slotRows s) vs
   seen g v d = rw (value-row s w k, sym e ∙ g) d
 
-find-requires : tie.Need-find-requires
-find-requires c κs = search needs
-
-enum-known-i : tie.Need-enum-known-i
-enum-known-i c = search needs
-
 mul-t11 : tie.Need-mul-t11
 mul-t11 c =
     let at = c .before in
@@ -45,12 +39,6 @@ array-read-t14 c =
     let at = c .before in
     let fd = at .before .before in
     fd .find .ensures .1 (at .i .given .0 .0) (at .i .given .1)
-
-enum-told : tie.Need-enum-told
-enum-told c = search needs
-
-value-at-requires : tie.Need-value-at-requires
-value-at-requires c κs = search needs
 
 returns : tie.Need-returns
 returns c =
@@ -72,13 +60,4 @@ returns-2 c =
 
 pub current-value-spec : {M : Type 1} → statement M
 current-value-spec =
-    tie.close
-    (tie.spec
-    find-requires
-    enum-known-i
-    mul-t11
-    array-read-t14
-    enum-told
-    value-at-requires
-    returns
-    returns-2)
+    tie.close (tie.spec (λ c κs. search needs) (λ c. search needs) mul-t11 array-read-t14 (λ c. search needs) (λ c κs. search needs) returns returns-2)

@@ -34,9 +34,6 @@ returns-5 c =
     let e1 = e2 .before in
     (rw (le-leb _ _ (e1 .if1 .left), le-leb _ _ (e2 .if2 .left), eq-eqb _ _ (e3 .if3 .left), eq-eqb _ _ (e4 .if4 .left), eq-eqb _ _ (c .if5 .taken)), λ e. absurd (false≢true e))
 
-shaped-requires : tie.Need-shaped-requires
-shaped-requires c κs = search needs
-
 returns-6 : tie.Need-returns-6
 returns-6 c =
     let e5 = c .before .before in
@@ -57,5 +54,4 @@ returns-6 c =
     )
 
 pub shaped-spec : {M : Type 1} → statement M
-shaped-spec =
-    tie.close (tie.spec returns returns-2 returns-3 returns-4 returns-5 shaped-requires returns-6)
+shaped-spec = tie.close (tie.spec returns returns-2 returns-3 returns-4 returns-5 (λ c κs. search needs) returns-6)

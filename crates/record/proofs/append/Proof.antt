@@ -21,24 +21,6 @@ back j part enc at h e =
     let m : take (length j - at) (drop at j) ≡ drop at j = take-all (length j - at) (drop at j) (rw length-drop (omega arith)) in
     rw (post-is at (length j) j (omega arith), drop-length, e, m, append-nil, drop-drop recordBytes at j)
 
-mul-at : tie.Need-mul-at
-mul-at c = search needs
-
-sub-write : tie.Need-sub-write
-sub-write c = search needs
-
-part-write-start : tie.Need-part-write-start
-part-write-start c = search needs
-
-part-write-end : tie.Need-part-write-end
-part-write-end c = search needs
-
-write-requires : tie.Need-write-requires
-write-requires c κs = search needs
-
-same-length : tie.Need-same-length
-same-length c = search needs
-
 returns : tie.Need-returns
 returns c =
     let w = c .before .before in
@@ -47,5 +29,5 @@ returns c =
 
 pub append-spec : {M : Type 1} → statement M
 append-spec =
-    tie.close
-    (tie.spec mul-at sub-write part-write-start part-write-end write-requires same-length returns)
+    tie.close (tie.spec (λ c. search needs) (λ c. search needs) (λ c. search needs) (λ c. search needs) (λ c κs. search needs) (λ c. search needs)
+    returns)

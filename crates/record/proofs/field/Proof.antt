@@ -20,14 +20,8 @@ eight b at low high h l k =
       small = omega (arith, l .small, k .small);
     }
 
-enum-told : tie.Need-enum-told
-enum-told c = search needs
-
 four-requires : tie.Need-four-requires
 four-requires c κs = rw (c .enum-told .given .1) at (c .before .before .before .pre)
-
-enum-told-2 : tie.Need-enum-told-2
-enum-told-2 c = search needs
 
 four-requires-2 : tie.Need-four-requires-2
 four-requires-2 c κs =
@@ -35,20 +29,11 @@ four-requires-2 c κs =
     let h : s .args .at + 8 ≤ length (now (s .args .bytes)) = rw (c .enum-told2 .given .1) at (s .pre) in
     omega arith
 
-add-four : tie.Need-add-four
-add-four c = search needs
-
 four-requires-3 : tie.Need-four-requires-3
 four-requires-3 c κs =
     let s = c .before .before .before .before in
     let h : s .args .at + 8 ≤ length (now (s .args .bytes)) = rw (c .before .enum-told2 .given .1) at (s .pre) in
     omega arith
-
-mul-result : tie.Need-mul-result
-mul-result c = search needs
-
-add-result : tie.Need-add-result
-add-result c = search needs
 
 returns : tie.Need-returns
 returns c = rw (c .before .enum-told .given .1) (c .four .ensures)
@@ -62,15 +47,5 @@ returns-2 c =
 
 pub field-spec : {M : Type 1} → statement M
 field-spec =
-    tie.close
-    (tie.spec
-    enum-told
-    four-requires
-    enum-told-2
-    four-requires-2
-    add-four
-    four-requires-3
-    mul-result
-    add-result
-    returns
-    returns-2)
+    tie.close (tie.spec (λ c. search needs) four-requires (λ c. search needs) four-requires-2 (λ c. search needs) four-requires-3 (λ c. search needs)
+    (λ c. search needs) returns returns-2)

@@ -28,23 +28,11 @@ spelled b at h =
       drop-cons b (suc (suc (suc at))) 0 (omega arith),
     ) (omega arith)
 
-add-two : tie.Need-add-two
-add-two c = search needs
-
-shared-slice-read-two : tie.Need-shared-slice-read-two
-shared-slice-read-two c = search needs
-
 cast-two : tie.Need-cast-two
 cast-two c = omega (arith, c .shared-slice-known .given (c .before .args .at + 3))
 
 mul-two : tie.Need-mul-two
 mul-two c = omega (arith, c .shared-slice-known .given (c .before .args .at + 3))
-
-add-two-2 : tie.Need-add-two-2
-add-two-2 c = search needs
-
-shared-slice-read-two-2 : tie.Need-shared-slice-read-two-2
-shared-slice-read-two-2 c = search needs
 
 cast-two-2 : tie.Need-cast-two-2
 cast-two-2 c = omega (arith, c .shared-slice-known2 .given (c .before .before .args .at + 2))
@@ -61,12 +49,6 @@ mul-three c =
     let a = c .before .before .args .at in
     omega (arith, g (a + 3), g (a + 2))
 
-add-three : tie.Need-add-three
-add-three c = search needs
-
-shared-slice-read-three : tie.Need-shared-slice-read-three
-shared-slice-read-three c = search needs
-
 cast-three : tie.Need-cast-three
 cast-three c = omega (arith, c .shared-slice-known3 .given (c .before .before .before .args .at + 1))
 
@@ -81,9 +63,6 @@ mul-result c =
     let g = c .shared-slice-known3 .given in
     let a = c .before .before .before .args .at in
     omega (arith, g (a + 3), g (a + 2), g (a + 1))
-
-shared-slice-read-result : tie.Need-shared-slice-read-result
-shared-slice-read-result c = search needs
 
 cast-result : tie.Need-cast-result
 cast-result c = omega (arith, c .shared-slice-known4 .given (c .before .before .before .before .args .at))
@@ -105,23 +84,5 @@ returns c =
 
 pub four-spec : {M : Type 1} → statement M
 four-spec =
-    tie.close
-    (tie.spec
-    add-two
-    shared-slice-read-two
-    cast-two
-    mul-two
-    add-two-2
-    shared-slice-read-two-2
-    cast-two-2
-    add-two-3
-    mul-three
-    add-three
-    shared-slice-read-three
-    cast-three
-    add-three-2
-    mul-result
-    shared-slice-read-result
-    cast-result
-    add-result
-    returns)
+    tie.close (tie.spec (λ c. search needs) (λ c. search needs) cast-two mul-two (λ c. search needs) (λ c. search needs) cast-two-2 add-two-3
+    mul-three (λ c. search needs) (λ c. search needs) cast-three add-three-2 mul-result (λ c. search needs) cast-result add-result returns)

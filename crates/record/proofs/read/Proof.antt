@@ -26,51 +26,6 @@ made a b d e f g = rw (a, b, d, e, f, g)
 above : (b : List ℕ) (at f : ℕ) → at < length b → getD b at 0 < 256 → f ≡ fieldAt b at 4 → f / 256 ≡ fieldAt b (at + 1) 3
 above b at f l h e = omega (arith, first-four b at l, field-byte b at l)
 
-mul-at : tie.Need-mul-at
-mul-at c = search needs
-
-shared-slice-read-t5 : tie.Need-shared-slice-read-t5
-shared-slice-read-t5 c = search needs
-
-four-requires : tie.Need-four-requires
-four-requires c κs = search needs
-
-cast-t8 : tie.Need-cast-t8
-cast-t8 c = search needs
-
-add-field : tie.Need-add-field
-add-field c = search needs
-
-field-requires : tie.Need-field-requires
-field-requires c κs = search needs
-
-cast-t12 : tie.Need-cast-t12
-cast-t12 c = search needs
-
-add-field-2 : tie.Need-add-field-2
-add-field-2 c = search needs
-
-field-requires-2 : tie.Need-field-requires-2
-field-requires-2 c κs = search needs
-
-cast-t16 : tie.Need-cast-t16
-cast-t16 c = search needs
-
-add-field-3 : tie.Need-add-field-3
-add-field-3 c = search needs
-
-field-requires-3 : tie.Need-field-requires-3
-field-requires-3 c κs = search needs
-
-cast-t20 : tie.Need-cast-t20
-cast-t20 c = search needs
-
-add-field-4 : tie.Need-add-field-4
-add-field-4 c = search needs
-
-field-requires-4 : tie.Need-field-requires-4
-field-requires-4 c κs = search needs
-
 returns : tie.Need-returns
 returns c =
     let c3 = c .before in
@@ -89,21 +44,6 @@ returns c =
 
 pub read-spec : {M : Type 1} → statement M
 read-spec =
-    tie.close
-    (tie.spec
-    mul-at
-    shared-slice-read-t5
-    four-requires
-    cast-t8
-    add-field
-    field-requires
-    cast-t12
-    add-field-2
-    field-requires-2
-    cast-t16
-    add-field-3
-    field-requires-3
-    cast-t20
-    add-field-4
-    field-requires-4
-    returns)
+    tie.close (tie.spec (λ c. search needs) (λ c. search needs) (λ c κs. search needs) (λ c. search needs) (λ c. search needs) (λ c κs. search needs)
+    (λ c. search needs) (λ c. search needs) (λ c κs. search needs) (λ c. search needs) (λ c. search needs) (λ c κs. search needs)
+    (λ c. search needs) (λ c. search needs) (λ c κs. search needs) returns)

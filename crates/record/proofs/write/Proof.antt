@@ -21,36 +21,6 @@ chain : (b b1 b2 b3 b4 b5 b6 : List ℕ) (r : Record) → b1 ≡ written b 0 1 (
 chain b b1 b2 b3 b4 b5 b6 r e1 e2 e3 e4 e5 e6 =
     rw (e6, e5, e4, e3, e2, e1) (rw (drop-drop 3 1 b, drop-drop 4 4 b, drop-drop 4 8 b, drop-drop 4 12 b, drop-drop 8 16 b))
 
-cast-put : tie.Need-cast-put
-cast-put c = search needs
-
-put-requires : tie.Need-put-requires
-put-requires c κs = search needs
-
-cast-put-2 : tie.Need-cast-put-2
-cast-put-2 c = search needs
-
-put-requires-2 : tie.Need-put-requires-2
-put-requires-2 c κs = search needs
-
-cast-put-3 : tie.Need-cast-put-3
-cast-put-3 c = search needs
-
-put-requires-3 : tie.Need-put-requires-3
-put-requires-3 c κs = search needs
-
-cast-put-4 : tie.Need-cast-put-4
-cast-put-4 c = search needs
-
-put-requires-4 : tie.Need-put-requires-4
-put-requires-4 c κs = search needs
-
-cast-put-5 : tie.Need-cast-put-5
-cast-put-5 c = search needs
-
-put-requires-5 : tie.Need-put-requires-5
-put-requires-5 c κs = search needs
-
 put-requires-6 : tie.Need-put-requires-6
 put-requires-6 c κs =
     let u5 = c .before .before in
@@ -85,18 +55,5 @@ returns c =
 
 pub write-spec : {M : Type 1} → statement M
 write-spec =
-    tie.close
-    (tie.spec
-    cast-put
-    put-requires
-    cast-put-2
-    put-requires-2
-    cast-put-3
-    put-requires-3
-    cast-put-4
-    put-requires-4
-    cast-put-5
-    put-requires-5
-    put-requires-6
-    same-length
-    returns)
+    tie.close (tie.spec (λ c. search needs) (λ c κs. search needs) (λ c. search needs) (λ c κs. search needs) (λ c. search needs)
+    (λ c κs. search needs) (λ c. search needs) (λ c κs. search needs) (λ c. search needs) (λ c κs. search needs) put-requires-6 same-length returns)

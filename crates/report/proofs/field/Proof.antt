@@ -19,9 +19,6 @@ print-requires c κs =
     let a = s .args in
     fits-then (now (a .out)) _ (a .at) _ (now (a .name)) (digits (a .n)) (s .pre) (p .put .ensures)
 
-same-length : tie.Need-same-length
-same-length c = search needs
-
 returns : tie.Need-returns
 returns c =
     let q = c .before .before in
@@ -31,4 +28,4 @@ returns c =
     then (fits-first (now (a .out)) (a .at) (now (a .name)) (digits (a .n)) (s .pre)) (p .put .ensures) (printed (q .print .ensures))
 
 pub field-spec : {M : Type 1} → statement M
-field-spec = tie.close (tie.spec put-requires print-requires same-length returns)
+field-spec = tie.close (tie.spec put-requires print-requires (λ c. search needs) returns)

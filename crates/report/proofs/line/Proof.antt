@@ -12,18 +12,12 @@ field-requires c κs =
     let a = s .args in
     fits-first (now (a .out)) (a .at) (field (now (a .name)) (a .n)) newline (s .pre)
 
-slice-aggregate-put : tie.Need-slice-aggregate-put
-slice-aggregate-put c = search needs
-
 put-requires : tie.Need-put-requires
 put-requires c κs =
     let p = c .before .before .before .before in
     let s = p .before .before .before .before in
     let a = s .args in
     fits-then (now (a .out)) _ (a .at) _ (field (now (a .name)) (a .n)) (newline) (s .pre) (p .field .ensures)
-
-same-length : tie.Need-same-length
-same-length c = search needs
 
 returns : tie.Need-returns
 returns c =
@@ -34,5 +28,4 @@ returns c =
     then (fits-first (now (a .out)) (a .at) (field (now (a .name)) (a .n)) (newline) (s .pre)) (p .field .ensures) (q .put .ensures)
 
 pub line-spec : {M : Type 1} → statement M
-line-spec =
-    tie.close (tie.spec field-requires slice-aggregate-put put-requires same-length returns)
+line-spec = tie.close (tie.spec field-requires (λ c. search needs) put-requires (λ c. search needs) returns)

@@ -19,9 +19,6 @@ line-requires c κs =
     let a = s .args in
     fits-then (now (a .out)) _ (a .at) _ (field (now (a .first)) (a .n)) (line (now (a .second)) (a .m)) (s .pre) (p .field .ensures)
 
-same-length : tie.Need-same-length
-same-length c = search needs
-
 returns : tie.Need-returns
 returns c =
     let q = c .before .before in
@@ -31,4 +28,4 @@ returns c =
     then (fits-first (now (a .out)) (a .at) (field (now (a .first)) (a .n)) (line (now (a .second)) (a .m)) (s .pre)) (p .field .ensures) (q .line .ensures)
 
 pub pair-spec : {M : Type 1} → statement M
-pair-spec = tie.close (tie.spec field-requires line-requires same-length returns)
+pair-spec = tie.close (tie.spec field-requires line-requires (λ c. search needs) returns)

@@ -81,28 +81,10 @@ loop-holds c =
     let a = s .args in
     starts (now (a .keys)) (now (a .values)) (a .count) (now (a .out)) (a .at) (s .pre .2)
 
-slice-aggregate-pair : tie.Need-slice-aggregate-pair Inv-loop μ-loop
-slice-aggregate-pair c = search needs
-
-mul-pair : tie.Need-mul-pair Inv-loop μ-loop
-mul-pair c = search needs
-
-shared-slice-read-pair : tie.Need-shared-slice-read-pair Inv-loop μ-loop
-shared-slice-read-pair c = search needs
-
 cast-pair : tie.Need-cast-pair Inv-loop μ-loop
 cast-pair c =
     let l = c .before .before .before .before .loop in
     search (needs, c .shared-slice-known3 .given (l .i))
-
-slice-aggregate-pair-2 : tie.Need-slice-aggregate-pair-2 Inv-loop μ-loop
-slice-aggregate-pair-2 c = search needs
-
-mul-pair-2 : tie.Need-mul-pair-2 Inv-loop μ-loop
-mul-pair-2 c = search needs
-
-shared-slice-read-pair-2 : tie.Need-shared-slice-read-pair-2 Inv-loop μ-loop
-shared-slice-read-pair-2 c = search needs
 
 cast-pair-2 : tie.Need-cast-pair-2 Inv-loop μ-loop
 cast-pair-2 c =
@@ -118,12 +100,6 @@ pair-requires c κs =
     let l = m .loop in
     fits (now (s .args .keys)) (now (s .args .values)) (s .args .count) (l .inv) (omega arith) (s .pre .0) (s .pre .1)
     (omega (arith, k .shared-slice-known3 .given (l .i))) (omega (arith, c .shared-slice-known4 .given (l .i)))
-
-add-i : tie.Need-add-i Inv-loop μ-loop
-add-i c = search needs
-
-loop-less : tie.Need-loop-less Inv-loop μ-loop
-loop-less c = search needs
 
 loop-again : tie.Need-loop-again Inv-loop μ-loop
 loop-again c =
@@ -149,22 +125,5 @@ returns c =
 
 pub rows-spec : {M : Type 1} → statement M
 rows-spec =
-    tie.close
-    (tie.spec
-    Inv-loop
-    μ-loop
-    loop-holds
-    slice-aggregate-pair
-    mul-pair
-    shared-slice-read-pair
-    cast-pair
-    slice-aggregate-pair-2
-    mul-pair-2
-    shared-slice-read-pair-2
-    cast-pair-2
-    pair-requires
-    add-i
-    loop-less
-    loop-again
-    same-length
-    returns)
+    tie.close (tie.spec Inv-loop μ-loop loop-holds (λ c. search needs) (λ c. search needs) (λ c. search needs) cast-pair (λ c. search needs)
+    (λ c. search needs) (λ c. search needs) cast-pair-2 pair-requires (λ c. search needs) (λ c. search needs) loop-again same-length returns)

@@ -14,18 +14,6 @@ use Rattle.rules.proofs.apply.Tie as tie
 adds : (e : Effect) (old : Value) (d z s : ℕ) → e ≡ Add d → z ≡ orZero old → s ≡ (z + d) % 2 ^ 32 → Present s ≡ applied e old
 adds e old d z s p q r = rw (p, r, q)
 
-enum-known-e : tie.Need-enum-known-e
-enum-known-e c = search needs
-
-enum-known-e-2 : tie.Need-enum-known-e-2
-enum-known-e-2 c = search needs
-
-or-zero-requires : tie.Need-or-zero-requires
-or-zero-requires c κs = search needs
-
-wrapping-add-u32-requires : tie.Need-wrapping-add-u32-requires
-wrapping-add-u32-requires c κs = search needs
-
 returns : tie.Need-returns
 returns c = sym (ap (λ (e : Effect). applied e (c .before .before .before .args .old)) (c .before .e .given .1))
 
@@ -36,12 +24,4 @@ returns-2 c =
     (c .wrapping-add-u32 .ensures)
 
 pub apply-spec : {M : Type 1} → statement M
-apply-spec =
-    tie.close
-    (tie.spec
-    enum-known-e
-    enum-known-e-2
-    or-zero-requires
-    wrapping-add-u32-requires
-    returns
-    returns-2)
+apply-spec = tie.close (tie.spec (λ c. search needs) (λ c. search needs) (λ c κs. search needs) (λ c κs. search needs) returns returns-2)

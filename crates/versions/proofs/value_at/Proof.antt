@@ -23,12 +23,6 @@ module _ (cs : Columns) (n k t : ℕ) (r : Found) (e : r ≡ rowOf (newest k t (
   absent : r ≡ found.Nothing → Absent ≡ valueAt k t (versionsOf n cs)
   absent f = rw (none-found k t cs n (sym e ∙ f))
 
-newest-row-requires : tie.Need-newest-row-requires
-newest-row-requires c κs = search needs
-
-enum-known-found : tie.Need-enum-known-found
-enum-known-found c = search needs
-
 mul-t10 : tie.Need-mul-t10
 mul-t10 c =
     let f = c .before in
@@ -47,9 +41,6 @@ shared-slice-read-t12 c =
     let cs = columns (now (a .keys)) (now (a .times)) (now (a .values)) in
     omega (arith, within cs (a .used) (a .k) (a .t) _ (n .newest-row .ensures cs) _ (f .found .given .1), s .pre .values)
 
-enum-told : tie.Need-enum-told
-enum-told c = search needs
-
 returns : tie.Need-returns
 returns c =
     let f = c .before .before in
@@ -66,13 +57,4 @@ returns-2 c =
     absent cs (a .used) (a .k) (a .t) _ (n .newest-row .ensures cs) (c .enum-told .given .1)
 
 pub value-at-spec : {M : Type 1} → statement M
-value-at-spec =
-    tie.close
-    (tie.spec
-    newest-row-requires
-    enum-known-found
-    mul-t10
-    shared-slice-read-t12
-    enum-told
-    returns
-    returns-2)
+value-at-spec = tie.close (tie.spec (λ c κs. search needs) (λ c. search needs) mul-t10 shared-slice-read-t12 (λ c. search needs) returns returns-2)

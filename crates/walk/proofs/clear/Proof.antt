@@ -29,12 +29,6 @@ commits rs r s v b o h k q e =
 returns : tie.Need-returns
 returns c = simp (ne-eqb _ _ (c .if1 .taken))
 
-snapshot-requires : tie.Need-snapshot-requires
-snapshot-requires c κs = search needs
-
-conflict-requires : tie.Need-conflict-requires
-conflict-requires c κs = search needs
-
 returns-2 : tie.Need-returns-2
 returns-2 c =
     let q = c .before in
@@ -44,4 +38,4 @@ returns-2 c =
     commits (newest (a .i) (now (a .journal))) (a .r) (a .s) _ _ (s .pre .2) (s .pre .4) (e .if1 .left) (q .snapshot .ensures) (c .conflict .ensures)
 
 pub clear-spec : {M : Type 1} → statement M
-clear-spec = tie.close (tie.spec returns snapshot-requires conflict-requires returns-2)
+clear-spec = tie.close (tie.spec returns (λ c κs. search needs) (λ c κs. search needs) returns-2)

@@ -49,26 +49,17 @@ module _ (r : Record) where
 returns : tie.Need-returns
 returns c = not-zero (c .before .before .args .r) (c .if1 .taken)
 
-is-blank-requires : tie.Need-is-blank-requires
-is-blank-requires c κs = search needs
-
 returns-2 : tie.Need-returns-2
 returns-2 c =
     let t = c .before in
     let e = t .before .before in
     begins (e .before .before .args .r) (e .if1 .left) _ (t .if2 .taken) (c .is-blank .ensures)
 
-is-blank-requires-2 : tie.Need-is-blank-requires-2
-is-blank-requires-2 c κs = search needs
-
 returns-3 : tie.Need-returns-3
 returns-3 c =
     let t = c .before in
     let e = t .before .before .before .before in
     commits (e .before .before .args .r) (e .if1 .left) _ (t .if3 .taken) (c .is-blank2 .ensures)
-
-is-update-requires : tie.Need-is-update-requires
-is-update-requires c κs = search needs
 
 returns-4 : tie.Need-returns-4
 returns-4 c =
@@ -98,9 +89,6 @@ returns-6 c =
     let e = e2 .before .before in
     unknown (e .before .before .args .r) (e .if1 .left) (e2 .if2 .left) (e3 .if3 .left) _ (u .is-update .ensures) (e4 .if4 .left) (c .if6 .taken)
 
-is-blank-requires-3 : tie.Need-is-blank-requires-3
-is-blank-requires-3 c κs = search needs
-
 returns-7 : tie.Need-returns-7
 returns-7 c =
     let t = c .before in
@@ -128,17 +116,5 @@ returns-8 c =
 
 pub formed-spec : {M : Type 1} → statement M
 formed-spec =
-    tie.close
-    (tie.spec
-    returns
-    is-blank-requires
-    returns-2
-    is-blank-requires-2
-    returns-3
-    is-update-requires
-    returns-4
-    returns-5
-    returns-6
-    is-blank-requires-3
-    returns-7
-    returns-8)
+    tie.close (tie.spec returns (λ c κs. search needs) returns-2 (λ c κs. search needs) returns-3 (λ c κs. search needs) returns-4 returns-5 returns-6
+    (λ c κs. search needs) returns-7 returns-8)

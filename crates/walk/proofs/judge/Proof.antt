@@ -36,18 +36,12 @@ module _ (low : ℕ) (rs : List Record) (r : Record) (s : State) (h : Tracks low
         cleared q b e =
             rw (sym fe ∙ ft, sym (numbered-by low rs r s h) ∙ sym ne ∙ nt, sym (timely-by low rs r s h) ∙ sym te ∙ tt, sym le ∙ q) e
 
-formed-requires : tie.Need-formed-requires
-formed-requires c κs = search needs
-
 returns : tie.Need-returns
 returns c =
     let f = c .before in
     let s = f .before .before in
     let a = s .args in
     misformed (a .low) (newest (a .i) (now (a .journal))) (a .r) (a .s) (s .pre .2) _ (f .formed .ensures) (not-true _ (c .if1 .taken))
-
-numbered-requires : tie.Need-numbered-requires
-numbered-requires c κs = search needs
 
 returns-2 : tie.Need-returns-2
 returns-2 c =
@@ -57,9 +51,6 @@ returns-2 c =
     let a = s .args in
     misnumbered (a .low) (newest (a .i) (now (a .journal))) (a .r) (a .s) (s .pre .2) _ (f .formed .ensures) (not-false _ (n .before .if1 .left)) _
     (n .numbered .ensures) (not-true _ (c .if2 .taken))
-
-timely-requires : tie.Need-timely-requires
-timely-requires c κs = search needs
 
 returns-3 : tie.Need-returns-3
 returns-3 c =
@@ -116,15 +107,5 @@ returns-5 c =
 
 pub judge-spec : {M : Type 1} → statement M
 judge-spec =
-    tie.close
-    (tie.spec
-    formed-requires
-    returns
-    numbered-requires
-    returns-2
-    timely-requires
-    returns-3
-    limited-requires
-    returns-4
-    clear-requires
-    returns-5)
+    tie.close (tie.spec (λ c κs. search needs) returns (λ c κs. search needs) returns-2 (λ c κs. search needs) returns-3 limited-requires returns-4
+    clear-requires returns-5)

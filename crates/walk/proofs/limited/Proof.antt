@@ -36,12 +36,6 @@ returns c =
     let a = s .args in
     begins (newest (a .i) (now (a .journal))) (a .r) (a .s) (s .pre .2) (t .if1 .taken)
 
-is-update-requires : tie.Need-is-update-requires
-is-update-requires c κs = search needs
-
-may-write-requires : tie.Need-may-write-requires
-may-write-requires c κs = search needs
-
 returns-2 : tie.Need-returns-2
 returns-2 c =
     let u = c .before .before in
@@ -57,5 +51,4 @@ returns-3 c =
     others (newest (a .i) (now (a .journal))) (a .r) (e .if1 .left) _ (u .is-update .ensures) (c .if2 .left)
 
 pub limited-spec : {M : Type 1} → statement M
-limited-spec =
-    tie.close (tie.spec returns is-update-requires may-write-requires returns-2 returns-3)
+limited-spec = tie.close (tie.spec returns (λ c κs. search needs) (λ c κs. search needs) returns-2 returns-3)

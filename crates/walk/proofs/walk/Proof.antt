@@ -43,14 +43,8 @@ Inv-loop journal used low s₀ i₀ s i = (i ≤ used) × Tracks low (newest i j
 abbrev μ-loop : tie.MeasureT-loop
 μ-loop journal used low s₀ i₀ s i = used - i
 
-start-requires : tie.Need-start-requires Inv-loop μ-loop
-start-requires c κs = search needs
-
 loop-holds : tie.Need-loop-holds Inv-loop μ-loop
 loop-holds c = (omega arith, start _ _ (c .start .ensures), refl)
-
-read-requires : tie.Need-read-requires Inv-loop μ-loop
-read-requires c κs = search needs
 
 judge-requires : tie.Need-judge-requires Inv-loop μ-loop
 judge-requires c κs =
@@ -77,12 +71,6 @@ step-requires c κs =
       begin-room (a .low) (newest (l .i) (now (a .journal))) (rd .read .result) (l .s) (l .inv .1) (sym (j .judge .ensures) ∙ not-false _ (c .if1 .left)),
     )
 
-add-i : tie.Need-add-i Inv-loop μ-loop
-add-i c = search needs
-
-loop-less : tie.Need-loop-less Inv-loop μ-loop
-loop-less c = search needs
-
 loop-again : tie.Need-loop-again Inv-loop μ-loop
 loop-again c =
     let j = c .before .before in
@@ -106,17 +94,5 @@ returns-2 c =
 
 pub walk-spec : {M : Type 1} → statement M
 walk-spec =
-    tie.close
-    (tie.spec
-    Inv-loop
-    μ-loop
-    start-requires
-    loop-holds
-    read-requires
-    judge-requires
-    returns
-    step-requires
-    add-i
-    loop-less
-    loop-again
-    returns-2)
+    tie.close (tie.spec Inv-loop μ-loop (λ c κs. search needs) loop-holds (λ c κs. search needs) judge-requires returns step-requires
+    (λ c. search needs) (λ c. search needs) loop-again returns-2)

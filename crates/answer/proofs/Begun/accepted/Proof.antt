@@ -14,12 +14,6 @@ use Rattle.answer.proofs.Begun.accepted.Tie as tie
 turned : (a : Begun) (x : Refusal) → a ≡ Refused x → false ≡ eqb (ofBegun a .number) 0
 turned a x e = sym (ap (λ (y : Begun). eqb (ofBegun y .number) 0) e ∙ refused-some x)
 
-enum-told : tie.Need-enum-told
-enum-told c = search needs
-
-enum-told-2 : tie.Need-enum-told-2
-enum-told-2 c = search needs
-
 returns : tie.Need-returns
 returns c = sym (ap (λ (y : Begun). eqb (ofBegun y .number) 0) (c .enum-told .given .1))
 
@@ -27,4 +21,4 @@ returns-2 : tie.Need-returns-2
 returns-2 c = turned (c .before .before .args .self) _ (c .enum-told2 .given .1)
 
 pub accepted-spec : {M : Type 1} → statement M
-accepted-spec = tie.close (tie.spec enum-told enum-told-2 returns returns-2)
+accepted-spec = tie.close (tie.spec (λ c. search needs) (λ c. search needs) returns returns-2)

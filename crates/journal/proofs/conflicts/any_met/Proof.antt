@@ -20,21 +20,6 @@ Inv-loop journal used keys written numbers late found₀ i₀ found i = (i ≤ u
 abbrev μ-loop : tie.MeasureT-loop
 μ-loop journal used keys written numbers late found₀ i₀ found i = used - i
 
-loop-holds : tie.Need-loop-holds Inv-loop μ-loop
-loop-holds c = search needs
-
-read-requires : tie.Need-read-requires Inv-loop μ-loop
-read-requires c κs = search needs
-
-is-met-requires : tie.Need-is-met-requires Inv-loop μ-loop
-is-met-requires c κs = search needs
-
-add-i : tie.Need-add-i Inv-loop μ-loop
-add-i c = search needs
-
-loop-less : tie.Need-loop-less Inv-loop μ-loop
-loop-less c = search needs
-
 loop-again : tie.Need-loop-again Inv-loop μ-loop
 loop-again c =
     let m = c .before in
@@ -59,14 +44,5 @@ returns c =
 
 pub any-met-spec : {M : Type 1} → statement M
 any-met-spec =
-    tie.close
-    (tie.spec
-    Inv-loop
-    μ-loop
-    loop-holds
-    read-requires
-    is-met-requires
-    add-i
-    loop-less
-    loop-again
-    returns)
+    tie.close (tie.spec Inv-loop μ-loop (λ c. search needs) (λ c κs. search needs) (λ c κs. search needs) (λ c. search needs) (λ c. search needs)
+    loop-again returns)

@@ -13,11 +13,5 @@ returns c =
     let a = s .args in
     sym (no-conflict-since (a .last) (a .snapshot) (a .n) (newest (a .used) (now (a .journal))) (c .if1 .taken) (s .pre .2))
 
-conflict-since-requires : tie.Need-conflict-since-requires
-conflict-since-requires c κs = search needs
-
-returns-2 : tie.Need-returns-2
-returns-2 c = search needs
-
 pub conflict-spec : {M : Type 1} → statement M
-conflict-spec = tie.close (tie.spec returns conflict-since-requires returns-2)
+conflict-spec = tie.close (tie.spec returns (λ c κs. search needs) (λ c. search needs))

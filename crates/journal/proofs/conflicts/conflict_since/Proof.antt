@@ -29,27 +29,6 @@ told n s used written late rs entry keys other numbers b k l h =
     (λ r. rw (keys-held (of n rs) used written entry keys k (r .key), late-held rs used late other numbers s l (r .transaction))) rs
     ∙ meets-conflict n s rs
 
-slice-aggregate-keys-written : tie.Need-slice-aggregate-keys-written
-slice-aggregate-keys-written c = search needs
-
-keys-written-requires : tie.Need-keys-written-requires
-keys-written-requires c κs = search needs
-
-slice-aggregate-late-numbers : tie.Need-slice-aggregate-late-numbers
-slice-aggregate-late-numbers c = search needs
-
-late-numbers-requires : tie.Need-late-numbers-requires
-late-numbers-requires c κs = search needs
-
-slice-aggregate-any-met : tie.Need-slice-aggregate-any-met
-slice-aggregate-any-met c = search needs
-
-slice-aggregate-any-met-2 : tie.Need-slice-aggregate-any-met-2
-slice-aggregate-any-met-2 c = search needs
-
-any-met-requires : tie.Need-any-met-requires
-any-met-requires c κs = search needs
-
 returns : tie.Need-returns
 returns c =
     let l = c .before .before .before .before in
@@ -60,13 +39,5 @@ returns c =
 
 pub conflict-since-spec : {M : Type 1} → statement M
 conflict-since-spec =
-    tie.close
-    (tie.spec
-    slice-aggregate-keys-written
-    keys-written-requires
-    slice-aggregate-late-numbers
-    late-numbers-requires
-    slice-aggregate-any-met
-    slice-aggregate-any-met-2
-    any-met-requires
-    returns)
+    tie.close (tie.spec (λ c. search needs) (λ c κs. search needs) (λ c. search needs) (λ c κs. search needs) (λ c. search needs) (λ c. search needs)
+    (λ c κs. search needs) returns)

@@ -24,15 +24,6 @@ module _ (keys numbers : List ℕ) (r : Record) (u : Bool) (d : u ≡ isUpdate r
     by-number : (v : Bool) → b ≡ true → v ≡ among (r .transaction) numbers → v ≡ metIn keys numbers r
     by-number v g h = rw (sym d ∙ e, sym f ∙ g) h
 
-is-update-requires : tie.Need-is-update-requires
-is-update-requires c κs = search needs
-
-is-in-requires : tie.Need-is-in-requires
-is-in-requires c κs = search needs
-
-is-in-requires-2 : tie.Need-is-in-requires-2
-is-in-requires-2 c κs = search needs
-
 returns : tie.Need-returns
 returns c =
     let i = c .before .before in
@@ -56,6 +47,4 @@ returns-3 c =
     no-update (take (a .written) (now (a .keys))) (take (a .late) (now (a .numbers))) (a .r) _ (u .is-update .ensures) (c .if1 .left)
 
 pub is-met-spec : {M : Type 1} → statement M
-is-met-spec =
-    tie.close
-    (tie.spec is-update-requires is-in-requires is-in-requires-2 returns returns-2 returns-3)
+is-met-spec = tie.close (tie.spec (λ c κs. search needs) (λ c κs. search needs) (λ c κs. search needs) returns returns-2 returns-3)

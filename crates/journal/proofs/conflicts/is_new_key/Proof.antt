@@ -24,12 +24,6 @@ module _ (n : ℕ) (keys : List ℕ) (r : Record) (own : r .transaction ≡ n) (
 returns : tie.Need-returns
 returns c = simp (ne-eqb _ _ (c .if1 .taken))
 
-is-update-requires : tie.Need-is-update-requires
-is-update-requires c κs = search needs
-
-is-in-requires : tie.Need-is-in-requires
-is-in-requires c κs = search needs
-
 returns-2 : tie.Need-returns-2
 returns-2 c =
     let u = c .before .before in
@@ -43,5 +37,4 @@ returns-3 c =
     no-update (a .n) (take (a .count) (now (a .keys))) (a .r) (u .before .if1 .left) _ (u .is-update .ensures) (c .if2 .left)
 
 pub is-new-key-spec : {M : Type 1} → statement M
-is-new-key-spec =
-    tie.close (tie.spec returns is-update-requires is-in-requires returns-2 returns-3)
+is-new-key-spec = tie.close (tie.spec returns (λ c κs. search needs) (λ c κs. search needs) returns-2 returns-3)

@@ -24,23 +24,11 @@ module _ (n k used count : ℕ) (rs : List Record) (entry keys : List ℕ) (h : 
   many : 32 ≤ count → (b : Bool) → b ≡ among k (take count keys) → b ≡ mayWrite n k rs
   many l b e = e ∙ keys-held (of n rs) used count entry keys h k ∙ sym (rw (← h .many, le-ltb count 32 l) (or-false (wrote k (of n rs))))
 
-slice-aggregate-keys-written : tie.Need-slice-aggregate-keys-written
-slice-aggregate-keys-written c = search needs
-
-keys-written-requires : tie.Need-keys-written-requires
-keys-written-requires c κs = search needs
-
 returns : tie.Need-returns
 returns c =
     let w = c .before .before in
     let a = w .before .before .before .args in
     few (a .n) (a .k) (a .used) _ (newest (a .used) (now (a .journal))) _ _ (w .keys-written .ensures) (c .if1 .taken)
-
-slice-aggregate-is-in : tie.Need-slice-aggregate-is-in
-slice-aggregate-is-in c = search needs
-
-is-in-requires : tie.Need-is-in-requires
-is-in-requires c κs = search needs
 
 returns-2 : tie.Need-returns-2
 returns-2 c =
@@ -50,12 +38,4 @@ returns-2 c =
     many (a .n) (a .k) (a .used) _ (newest (a .used) (now (a .journal))) _ _ (w .keys-written .ensures) (e .if1 .left) _ (c .is-in .ensures)
 
 pub may-write-spec : {M : Type 1} → statement M
-may-write-spec =
-    tie.close
-    (tie.spec
-    slice-aggregate-keys-written
-    keys-written-requires
-    returns
-    slice-aggregate-is-in
-    is-in-requires
-    returns-2)
+may-write-spec = tie.close (tie.spec (λ c. search needs) (λ c κs. search needs) returns (λ c. search needs) (λ c κs. search needs) returns-2)

@@ -8,11 +8,8 @@ use Rattle.journal.proofs.times.above_step.Tie as tie
 returns : tie.Need-returns
 returns c = record { step = simp (ne-eqb _ _ (c .if1 .taken)); fits = search needs }
 
-above-requires : tie.Need-above-requires
-above-requires c κs = search needs
-
 returns-2 : tie.Need-returns-2
 returns-2 c = record { step = simp (eq-eqb _ _ (c .before .if1 .left), ← add-one) (c .above .ensures); fits = search needs }
 
 pub above-step-spec : {M : Type 1} → statement M
-above-step-spec = tie.close (tie.spec returns above-requires returns-2)
+above-step-spec = tie.close (tie.spec returns (λ c κs. search needs) returns-2)

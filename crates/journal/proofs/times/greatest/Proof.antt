@@ -16,21 +16,6 @@ Inv-loop journal used low best₀ i₀ best i = (i ≤ used) × (best ≡ last l
 abbrev μ-loop : tie.MeasureT-loop
 μ-loop journal used low best₀ i₀ best i = used - i
 
-loop-holds : tie.Need-loop-holds Inv-loop μ-loop
-loop-holds c = search needs
-
-read-requires : tie.Need-read-requires Inv-loop μ-loop
-read-requires c κs = search needs
-
-last-step-requires : tie.Need-last-step-requires Inv-loop μ-loop
-last-step-requires c κs = search needs
-
-add-i : tie.Need-add-i Inv-loop μ-loop
-add-i c = search needs
-
-loop-less : tie.Need-loop-less Inv-loop μ-loop
-loop-less c = search needs
-
 loop-again : tie.Need-loop-again Inv-loop μ-loop
 loop-again c =
     let l = c .before .before .before .loop in
@@ -47,14 +32,5 @@ returns c =
 
 pub greatest-spec : {M : Type 1} → statement M
 greatest-spec =
-    tie.close
-    (tie.spec
-    Inv-loop
-    μ-loop
-    loop-holds
-    read-requires
-    last-step-requires
-    add-i
-    loop-less
-    loop-again
-    returns)
+    tie.close (tie.spec Inv-loop μ-loop (λ c. search needs) (λ c κs. search needs) (λ c κs. search needs) (λ c. search needs) (λ c. search needs)
+    loop-again returns)

@@ -8,18 +8,6 @@ use Rattle.journal.specs.Past.{last-past}
 use Rattle.journal.proofs.times.last.Statement.{statement}
 use Rattle.journal.proofs.times.last.Tie as tie
 
-newest-time-requires : tie.Need-newest-time-requires
-newest-time-requires c κs = search needs
-
-is-passed-requires : tie.Need-is-passed-requires
-is-passed-requires c κs = search needs
-
-greatest-requires : tie.Need-greatest-requires
-greatest-requires c κs = search needs
-
-returns : tie.Need-returns
-returns c = search needs
-
 returns-2 : tie.Need-returns-2
 returns-2 c =
     let p = c .before in
@@ -29,5 +17,4 @@ returns-2 c =
     omega (arith, t .newest-time .ensures .1)
 
 pub last-spec : {M : Type 1} → statement M
-last-spec =
-    tie.close (tie.spec newest-time-requires is-passed-requires greatest-requires returns returns-2)
+last-spec = tie.close (tie.spec (λ c κs. search needs) (λ c κs. search needs) (λ c κs. search needs) (λ c. search needs) returns-2)

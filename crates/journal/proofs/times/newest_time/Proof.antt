@@ -31,30 +31,12 @@ Inv-loop journal used low i₀ i = i ≤ used
 abbrev μ-loop : tie.MeasureT-loop
 μ-loop journal used low i₀ i = i
 
-loop-holds : tie.Need-loop-holds Inv-loop μ-loop
-loop-holds c = search needs
-
-sub-i : tie.Need-sub-i Inv-loop μ-loop
-sub-i c = search needs
-
-read-requires : tie.Need-read-requires Inv-loop μ-loop
-read-requires c κs = search needs
-
-last-step-requires : tie.Need-last-step-requires Inv-loop μ-loop
-last-step-requires c κs = search needs
-
 returns : tie.Need-returns Inv-loop μ-loop
 returns c =
     let r = c .before .before .before in
     let l = r .before .before .loop in
     let a = r .before .before .before .before .args in
     found (now (a .journal)) (a .used) (a .low) (l .i - 1) _ _ (omega arith) (r .read .ensures) (c .before .if1 .taken) (c .last-step .ensures)
-
-loop-less : tie.Need-loop-less Inv-loop μ-loop
-loop-less c = search needs
-
-loop-again : tie.Need-loop-again Inv-loop μ-loop
-loop-again c = search needs
 
 returns-2 : tie.Need-returns-2 Inv-loop μ-loop
 returns-2 c =
@@ -63,15 +45,5 @@ returns-2 c =
 
 pub newest-time-spec : {M : Type 1} → statement M
 newest-time-spec =
-    tie.close
-    (tie.spec
-    Inv-loop
-    μ-loop
-    loop-holds
-    sub-i
-    read-requires
-    last-step-requires
-    returns
-    loop-less
-    loop-again
-    returns-2)
+    tie.close (tie.spec Inv-loop μ-loop (λ c. search needs) (λ c. search needs) (λ c κs. search needs) (λ c κs. search needs) returns
+    (λ c. search needs) (λ c. search needs) returns-2)

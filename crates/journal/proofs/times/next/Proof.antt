@@ -18,21 +18,6 @@ Inv-loop journal used floor best₀ i₀ best i = (i ≤ used) × (best ≤ 4294
 abbrev μ-loop : tie.MeasureT-loop
 μ-loop journal used floor best₀ i₀ best i = used - i
 
-loop-holds : tie.Need-loop-holds Inv-loop μ-loop
-loop-holds c = search needs
-
-read-requires : tie.Need-read-requires Inv-loop μ-loop
-read-requires c κs = search needs
-
-above-step-requires : tie.Need-above-step-requires Inv-loop μ-loop
-above-step-requires c κs = search needs
-
-add-i : tie.Need-add-i Inv-loop μ-loop
-add-i c = search needs
-
-loop-less : tie.Need-loop-less Inv-loop μ-loop
-loop-less c = search needs
-
 loop-again : tie.Need-loop-again Inv-loop μ-loop
 loop-again c =
     let l = c .before .before .before .loop in
@@ -42,12 +27,6 @@ loop-again c =
       s .fits,
       turn (above (a .floor)) aboveStep (λ r rs. refl) (now (a .journal)) (l .i) _ _ _ (s .step) (c .before .read .ensures) (l .inv .2),
     )
-
-cast-if1 : tie.Need-cast-if1 Inv-loop μ-loop
-cast-if1 c = search needs
-
-cast-result : tie.Need-cast-result Inv-loop μ-loop
-cast-result c = search needs
 
 returns : tie.Need-returns Inv-loop μ-loop
 returns c =
@@ -65,17 +44,5 @@ returns-2 c =
 
 pub next-spec : {M : Type 1} → statement M
 next-spec =
-    tie.close
-    (tie.spec
-    Inv-loop
-    μ-loop
-    loop-holds
-    read-requires
-    above-step-requires
-    add-i
-    loop-less
-    loop-again
-    cast-if1
-    cast-result
-    returns
-    returns-2)
+    tie.close (tie.spec Inv-loop μ-loop (λ c. search needs) (λ c κs. search needs) (λ c κs. search needs) (λ c. search needs) (λ c. search needs)
+    loop-again (λ c. search needs) (λ c. search needs) returns returns-2)

@@ -19,21 +19,6 @@ Inv-loop journal used t found₀ i₀ found i = (i ≤ used) × (found ≡ any (
 abbrev μ-loop : tie.MeasureT-loop
 μ-loop journal used t found₀ i₀ found i = used - i
 
-loop-holds : tie.Need-loop-holds Inv-loop μ-loop
-loop-holds c = search needs
-
-read-requires : tie.Need-read-requires Inv-loop μ-loop
-read-requires c κs = search needs
-
-is-held-requires : tie.Need-is-held-requires Inv-loop μ-loop
-is-held-requires c κs = search needs
-
-add-i : tie.Need-add-i Inv-loop μ-loop
-add-i c = search needs
-
-loop-less : tie.Need-loop-less Inv-loop μ-loop
-loop-less c = search needs
-
 loop-again : tie.Need-loop-again Inv-loop μ-loop
 loop-again c =
     let m = c .before in
@@ -57,14 +42,5 @@ returns c =
 
 pub held-spec : {M : Type 1} → statement M
 held-spec =
-    tie.close
-    (tie.spec
-    Inv-loop
-    μ-loop
-    loop-holds
-    read-requires
-    is-held-requires
-    add-i
-    loop-less
-    loop-again
-    returns)
+    tie.close (tie.spec Inv-loop μ-loop (λ c. search needs) (λ c κs. search needs) (λ c κs. search needs) (λ c. search needs) (λ c. search needs)
+    loop-again returns)

@@ -33,9 +33,6 @@ module _ (t : ℕ) (whole : List Record) (r : Record) (s : Trace) (k : r .kind �
 returns : tie.Need-returns
 returns c = simp (ne-eqb _ _ (c .if1 .taken))
 
-is-ended-requires : tie.Need-is-ended-requires
-is-ended-requires c κs = search needs
-
 returns-2 : tie.Need-returns-2
 returns-2 c =
     let g = c .before in
@@ -43,9 +40,6 @@ returns-2 c =
     let a = s .args in
     gone (a .t) (newest (a .used) (now (a .journal))) (a .r)
     (ended-behind (a .r .transaction) (now (a .journal)) (a .i) (a .used) (s .pre .1) _ (g .is-ended .ensures) (c .if2 .taken))
-
-follow-requires : tie.Need-follow-requires
-follow-requires c κs = search needs
 
 returns-3 : tie.Need-returns-3
 returns-3 c =
@@ -73,4 +67,4 @@ returns-5 c =
     (c .if3 .left) refl
 
 pub is-held-spec : {M : Type 1} → statement M
-is-held-spec = tie.close (tie.spec returns is-ended-requires returns-2 follow-requires returns-3 returns-4 returns-5)
+is-held-spec = tie.close (tie.spec returns (λ c κs. search needs) returns-2 (λ c κs. search needs) returns-3 returns-4 returns-5)

@@ -35,9 +35,6 @@ module _ (whole older : List Record) (r : Record) (k : r .kind ≡ 1) where
 returns : tie.Need-returns
 returns c = simp (ne-eqb _ _ (c .if1 .taken))
 
-is-ended-requires : tie.Need-is-ended-requires
-is-ended-requires c κs = search needs
-
 returns-2 : tie.Need-returns-2
 returns-2 c =
     let g = c .before in
@@ -46,9 +43,6 @@ returns-2 c =
     let j = now (a .journal) in
     ended (newest (a .used) j) (newest (a .i) j) (a .r) (g .before .if1 .left)
     (ended-behind (a .r .transaction) j (a .i) (a .used) (s .pre .1) _ (g .is-ended .ensures) (c .if2 .taken))
-
-cast-if3 : tie.Need-cast-if3
-cast-if3 c = search needs
 
 returns-3 : tie.Need-returns-3
 returns-3 c =
@@ -60,9 +54,6 @@ returns-3 c =
     first (newest (a .used) j) (newest (a .i) j) (a .r) (g .before .if1 .left)
     (ended-before (a .r .transaction) j (a .i) (a .used) (s .pre .1) _ (g .is-ended .ensures) (n .if2 .left))
     (none-of (a .r .transaction) (newest (a .i) j) (rw (s .pre .2) at (c .if3 .taken)))
-
-follow-requires : tie.Need-follow-requires
-follow-requires c κs = search needs
 
 returns-4 : tie.Need-returns-4
 returns-4 c =
@@ -89,4 +80,4 @@ returns-5 c =
     (f .follow .result) (f .follow .ensures) (c .before .if4 .left)
 
 pub opens-at-spec : {M : Type 1} → statement M
-opens-at-spec = tie.close (tie.spec returns is-ended-requires returns-2 cast-if3 returns-3 follow-requires returns-4 returns-5)
+opens-at-spec = tie.close (tie.spec returns (λ c κs. search needs) returns-2 (λ c. search needs) returns-3 (λ c κs. search needs) returns-4 returns-5)

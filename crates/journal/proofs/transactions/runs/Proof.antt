@@ -6,14 +6,8 @@ use Rattle.journal.specs.declared.transactions.Trace.{Trace}
 use Rattle.journal.proofs.transactions.runs.Statement.{statement}
 use Rattle.journal.proofs.transactions.runs.Tie as tie
 
-follow-requires : tie.Need-follow-requires
-follow-requires c κs = search needs
-
-runs-requires : tie.Need-runs-requires
-runs-requires c κs = search needs
-
 returns : tie.Need-returns
 returns c = c .runs .ensures ∙ ap (λ (t : Trace). t .begun && not (t .ended)) (c .before .follow .ensures)
 
 pub runs-spec : {M : Type 1} → statement M
-runs-spec = tie.close (tie.spec follow-requires runs-requires returns)
+runs-spec = tie.close (tie.spec (λ c κs. search needs) (λ c κs. search needs) returns)

@@ -10,20 +10,11 @@ use denote.Ref.{now}
 use Rattle.journal_store.proofs.abort.decide.Statement.{statement}
 use Rattle.journal_store.proofs.abort.decide.Tie as tie
 
-runs-requires : tie.Need-runs-requires
-runs-requires c κs = search needs
-
 returns : tie.Need-returns
 returns c =
     let rn = c .before in
     let a = rn .before .before .before .before .args in
     abort-unknown (roomOf (length (now (a .journal)))) (meaning (a .h) (now (a .keys)) (now (a .values)) (now (a .journal))) (a .n) _ (rn .runs .ensures) (not-true _ (c .if1 .taken))
-
-room-requires : tie.Need-room-requires
-room-requires c κs = search needs
-
-add-if2 : tie.Need-add-if2
-add-if2 c = search needs
 
 returns-2 : tie.Need-returns-2
 returns-2 c =
@@ -44,4 +35,4 @@ returns-3 c =
     (rw (rm .room .ensures) at (c .if2 .left))
 
 pub decide-spec : {M : Type 1} → statement M
-decide-spec = tie.close (tie.spec runs-requires returns room-requires add-if2 returns-2 returns-3)
+decide-spec = tie.close (tie.spec (λ c κs. search needs) returns (λ c κs. search needs) (λ c. search needs) returns-2 returns-3)

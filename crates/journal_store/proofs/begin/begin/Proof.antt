@@ -40,9 +40,6 @@ recorded : (room t : ℕ) (s : Store) (x : Begun) (accepted : Bool) (n : ℕ) (r
     → n ≡ begunNumber x → r ≡ begun n t → accepted ≡ true → r ≡ begun (nextOf s) t
 recorded room t s x accepted n r d y e f h = f ∙ ap (λ (m : ℕ). begun m t) (e ∙ numbered room t s x d (sym y ∙ h))
 
-shaped-requires : tie.Need-shaped-requires
-shaped-requires c κs = search needs
-
 returns : tie.Need-returns
 returns c =
     let sh = c .before in
@@ -56,15 +53,6 @@ decide-requires c κs =
     let a = sh .before .before .before .before .args in
     shape (a .h) (length (now (a .keys))) (length (now (a .values))) (length (now (a .journal))) (sym (sh .shaped .ensures) ∙ not-false _ (e1 .if1 .left))
 
-accepted-requires : tie.Need-accepted-requires
-accepted-requires c κs = search needs
-
-number-requires : tie.Need-number-requires
-number-requires c κs = search needs
-
-begun-requires : tie.Need-begun-requires
-begun-requires c κs = search needs
-
 put-requires : tie.Need-put-requires
 put-requires c κs =
     let ac = c .before .before in
@@ -74,9 +62,6 @@ put-requires c κs =
     let a = sh .before .before .before .before .args in
     has-room (Begin (a .t)) (a .h) (now (a .keys)) (now (a .values)) (now (a .journal)) (sym (sh .shaped .ensures) ∙ not-false _ (e1 .if1 .left)) (ofBegun (dc .decide .result))
     (dc .decide .ensures) _ (ac .accepted .ensures)
-
-same-length : tie.Need-same-length
-same-length c = search needs
 
 returns-2 : tie.Need-returns-2
 returns-2 c =
@@ -94,14 +79,5 @@ returns-2 c =
 
 pub begin-spec : {M : Type 1} → statement M
 begin-spec =
-    tie.close
-    (tie.spec
-    shaped-requires
-    returns
-    decide-requires
-    accepted-requires
-    number-requires
-    begun-requires
-    put-requires
-    same-length
-    returns-2)
+    tie.close (tie.spec (λ c κs. search needs) returns decide-requires (λ c κs. search needs) (λ c κs. search needs) (λ c κs. search needs)
+    put-requires (λ c. search needs) returns-2)

@@ -17,18 +17,12 @@ returns c =
     let a = c .before .before .before .before .before .args in
     begin-old (roomOf (length (now (a .journal)))) (meaning (a .h) (now (a .keys)) (now (a .values)) (now (a .journal))) (a .t) (c .if1 .taken)
 
-is-future-requires : tie.Need-is-future-requires
-is-future-requires c κs = search needs
-
 returns-2 : tie.Need-returns-2
 returns-2 c =
     let la = c .before in
     let e1 = la .before in
     let a = e1 .before .before .before .before .before .args in
     begin-future (roomOf (length (now (a .journal)))) (meaning (a .h) (now (a .keys)) (now (a .values)) (now (a .journal))) (a .t) (e1 .if1 .left) _ (la .is-future .ensures) (c .if2 .taken)
-
-count-running-requires : tie.Need-count-running-requires
-count-running-requires c κs = search needs
 
 returns-3 : tie.Need-returns-3
 returns-3 c =
@@ -39,9 +33,6 @@ returns-3 c =
     let a = e1 .before .before .before .before .before .args in
     begin-many (roomOf (length (now (a .journal)))) (meaning (a .h) (now (a .keys)) (now (a .values)) (now (a .journal))) (a .t) (e1 .if1 .left) _ (la .is-future .ensures) (e2 .if2 .left) _
     (cr .count-running .ensures .count) (c .if3 .taken)
-
-next-requires : tie.Need-next-requires
-next-requires c κs = search needs
 
 returns-4 : tie.Need-returns-4
 returns-4 c =
@@ -54,15 +45,6 @@ returns-4 c =
     let a = e1 .before .before .before .before .before .args in
     begin-numbers (roomOf (length (now (a .journal)))) (meaning (a .h) (now (a .keys)) (now (a .values)) (now (a .journal))) (a .t) (e1 .if1 .left) _ (la .is-future .ensures) (e2 .if2 .left) _
     (cr .count-running .ensures .count) (e3 .if3 .left) _ (nx .next .ensures) (c .if4 .taken)
-
-room-requires : tie.Need-room-requires
-room-requires c κs = search needs
-
-add-if5 : tie.Need-add-if5
-add-if5 c = search needs
-
-add-if5-2 : tie.Need-add-if5-2
-add-if5-2 c = search needs
 
 returns-5 : tie.Need-returns-5
 returns-5 c =
@@ -98,17 +80,5 @@ returns-6 c =
 
 pub decide-spec : {M : Type 1} → statement M
 decide-spec =
-    tie.close
-    (tie.spec
-    returns
-    is-future-requires
-    returns-2
-    count-running-requires
-    returns-3
-    next-requires
-    returns-4
-    room-requires
-    add-if5
-    add-if5-2
-    returns-5
-    returns-6)
+    tie.close (tie.spec returns (λ c κs. search needs) returns-2 (λ c κs. search needs) returns-3 (λ c κs. search needs) returns-4
+    (λ c κs. search needs) (λ c. search needs) (λ c. search needs) returns-5 returns-6)

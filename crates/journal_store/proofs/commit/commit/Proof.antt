@@ -11,9 +11,6 @@ use denote.Ref.{now}
 use Rattle.journal_store.proofs.commit.commit.Statement.{statement}
 use Rattle.journal_store.proofs.commit.commit.Tie as tie
 
-shaped-requires : tie.Need-shaped-requires
-shaped-requires c κs = search needs
-
 returns : tie.Need-returns
 returns c =
     let sh = c .before in
@@ -27,12 +24,6 @@ decide-requires c κs =
     let a = sh .before .before .before .before .args in
     shape (a .h) (length (now (a .keys))) (length (now (a .values))) (length (now (a .journal))) (sym (sh .shaped .ensures) ∙ not-false _ (e1 .if1 .left))
 
-accepted-requires : tie.Need-accepted-requires
-accepted-requires c κs = search needs
-
-committed-requires : tie.Need-committed-requires
-committed-requires c κs = search needs
-
 put-requires : tie.Need-put-requires
 put-requires c κs =
     let ac = c .before in
@@ -42,9 +33,6 @@ put-requires c κs =
     let a = sh .before .before .before .before .args in
     has-room (Commit (a .n) (a .t)) (a .h) (now (a .keys)) (now (a .values)) (now (a .journal)) (sym (sh .shaped .ensures) ∙ not-false _ (e1 .if1 .left)) (ofDone (dc .decide .result))
     (dc .decide .ensures) _ (ac .accepted .ensures)
-
-same-length : tie.Need-same-length
-same-length c = search needs
 
 returns-2 : tie.Need-returns-2
 returns-2 c =
@@ -60,13 +48,5 @@ returns-2 c =
 
 pub commit-spec : {M : Type 1} → statement M
 commit-spec =
-    tie.close
-    (tie.spec
-    shaped-requires
-    returns
-    decide-requires
-    accepted-requires
-    committed-requires
-    put-requires
-    same-length
+    tie.close (tie.spec (λ c κs. search needs) returns decide-requires (λ c κs. search needs) (λ c κs. search needs) put-requires (λ c. search needs)
     returns-2)

@@ -16,12 +16,6 @@ use denote.Ref.{now}
 use Rattle.journal_store.proofs.commit.decide.Statement.{statement}
 use Rattle.journal_store.proofs.commit.decide.Tie as tie
 
-follow-requires : tie.Need-follow-requires
-follow-requires c κs = search needs
-
-runs-requires : tie.Need-runs-requires
-runs-requires c κs = search needs
-
 returns : tie.Need-returns
 returns c =
     let rn = c .before in
@@ -30,9 +24,6 @@ returns c =
     let rs = newest (a .h .journal .used) (now (a .journal)) in
     let ru = rn .runs .ensures ∙ ap (λ (x : Trace). x .begun && not (x .ended)) (fo .follow .ensures) in
     commit-unknown (roomOf (length (now (a .journal)))) (meaning (a .h) (now (a .keys)) (now (a .values)) (now (a .journal))) (a .n) _ ru (a .t) (not-true _ (c .if1 .taken))
-
-last-requires : tie.Need-last-requires
-last-requires c κs = search needs
 
 returns-2 : tie.Need-returns-2
 returns-2 c =
@@ -69,12 +60,6 @@ returns-3 c =
     commit-conflict (roomOf (length (now (a .journal)))) (meaning (a .h) (now (a .keys)) (now (a .values)) (now (a .journal))) (a .n) _ ru (not-false _ (e1 .if1 .left)) (a .t) _ (la .last .ensures)
     (e2 .if2 .left) _ (co .conflict .ensures ∙ ap (λ (x : Trace). conflict (a .n) (x .snapshot) rs) (fo .follow .ensures)) (c .if3 .taken)
 
-room-requires : tie.Need-room-requires
-room-requires c κs = search needs
-
-add-if4 : tie.Need-add-if4
-add-if4 c = search needs
-
 returns-4 : tie.Need-returns-4
 returns-4 c =
     let rm = c .before in
@@ -109,16 +94,5 @@ returns-5 c =
 
 pub decide-spec : {M : Type 1} → statement M
 decide-spec =
-    tie.close
-    (tie.spec
-    follow-requires
-    runs-requires
-    returns
-    last-requires
-    returns-2
-    conflict-requires
-    returns-3
-    room-requires
-    add-if4
-    returns-4
-    returns-5)
+    tie.close (tie.spec (λ c κs. search needs) (λ c κs. search needs) returns (λ c κs. search needs) returns-2 conflict-requires returns-3
+    (λ c κs. search needs) (λ c. search needs) returns-4 returns-5)

@@ -17,9 +17,6 @@ returns-2 c =
     let a = e1 .before .before .before .before .args in
     lookup-old (a .k) (a .t) (meaning (a .h) (now (a .keys)) (now (a .values)) (now (a .journal))) (e1 .if1 .left) (c .if2 .taken)
 
-is-future-requires : tie.Need-is-future-requires
-is-future-requires c κs = search needs
-
 returns-3 : tie.Need-returns-3
 returns-3 c =
     let la = c .before in
@@ -28,9 +25,6 @@ returns-3 c =
     let a = e1 .before .before .before .before .args in
     lookup-future (a .k) (a .t) (meaning (a .h) (now (a .keys)) (now (a .values)) (now (a .journal))) (e1 .if1 .left) (e2 .if2 .left) _ (la .is-future .ensures)
     (c .if3 .taken)
-
-value-at-requires : tie.Need-value-at-requires
-value-at-requires c κs = search needs
 
 returns-4 : tie.Need-returns-4
 returns-4 c =
@@ -43,5 +37,4 @@ returns-4 c =
     (e3 .if3 .left) _ (c .value-at .ensures)
 
 pub decide-spec : {M : Type 1} → statement M
-decide-spec =
-    tie.close (tie.spec returns returns-2 is-future-requires returns-3 value-at-requires returns-4)
+decide-spec = tie.close (tie.spec returns returns-2 (λ c κs. search needs) returns-3 (λ c κs. search needs) returns-4)

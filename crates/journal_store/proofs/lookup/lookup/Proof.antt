@@ -10,9 +10,6 @@ use denote.Ref.{now}
 use Rattle.journal_store.proofs.lookup.lookup.Statement.{statement}
 use Rattle.journal_store.proofs.lookup.lookup.Tie as tie
 
-shaped-requires : tie.Need-shaped-requires
-shaped-requires c κs = search needs
-
 returns : tie.Need-returns
 returns c =
     let sh = c .before in
@@ -34,4 +31,4 @@ returns-2 c =
     (c .decide .ensures)
 
 pub lookup-spec : {M : Type 1} → statement M
-lookup-spec = tie.close (tie.spec shaped-requires returns decide-requires returns-2)
+lookup-spec = tie.close (tie.spec (λ c κs. search needs) returns decide-requires returns-2)

@@ -15,12 +15,6 @@ use denote.Ref.{now}
 use Rattle.journal_store.proofs.read.decide.Statement.{statement}
 use Rattle.journal_store.proofs.read.decide.Tie as tie
 
-follow-requires : tie.Need-follow-requires
-follow-requires c κs = search needs
-
-runs-requires : tie.Need-runs-requires
-runs-requires c κs = search needs
-
 returns : tie.Need-returns
 returns c =
     let ru = c .before in
@@ -36,9 +30,6 @@ returns-2 c =
     read-key (a .n) (a .k) (meaning (a .h) (now (a .keys)) (now (a .values)) (now (a .journal))) _ (ru .runs .ensures ∙ ap (λ (t : Trace). t .begun && not (t .ended)) (fo .follow .ensures))
     (not-false _ (c .before .if1 .left)) (c .if2 .taken)
 
-read-in-requires : tie.Need-read-in-requires
-read-in-requires c κs = search needs
-
 returns-3 : tie.Need-returns-3
 returns-3 c =
     let e2 = c .before in
@@ -52,5 +43,4 @@ returns-3 c =
     (c .read-in .ensures ∙ ap (λ (t : Trace). readIn base rs (a .n) (t .snapshot) (a .k)) (fo .follow .ensures))
 
 pub decide-spec : {M : Type 1} → statement M
-decide-spec =
-    tie.close (tie.spec follow-requires runs-requires returns returns-2 read-in-requires returns-3)
+decide-spec = tie.close (tie.spec (λ c κs. search needs) (λ c κs. search needs) returns returns-2 (λ c κs. search needs) returns-3)

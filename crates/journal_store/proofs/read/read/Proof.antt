@@ -10,9 +10,6 @@ use denote.Ref.{now}
 use Rattle.journal_store.proofs.read.read.Statement.{statement}
 use Rattle.journal_store.proofs.read.read.Tie as tie
 
-shaped-requires : tie.Need-shaped-requires
-shaped-requires c κs = search needs
-
 returns : tie.Need-returns
 returns c =
     let sh = c .before in
@@ -34,4 +31,4 @@ returns-2 c =
     (c .decide .ensures)
 
 pub read-spec : {M : Type 1} → statement M
-read-spec = tie.close (tie.spec shaped-requires returns decide-requires returns-2)
+read-spec = tie.close (tie.spec (λ c κs. search needs) returns decide-requires returns-2)

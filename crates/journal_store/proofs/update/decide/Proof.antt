@@ -10,9 +10,6 @@ use denote.Ref.{now}
 use Rattle.journal_store.proofs.update.decide.Statement.{statement}
 use Rattle.journal_store.proofs.update.decide.Tie as tie
 
-runs-requires : tie.Need-runs-requires
-runs-requires c κs = search needs
-
 returns : tie.Need-returns
 returns c =
     let rn = c .before in
@@ -26,9 +23,6 @@ returns-2 c =
     let a = rn .before .before .before .before .args in
     update-key (roomOf (length (now (a .journal)))) (meaning (a .h) (now (a .keys)) (now (a .values)) (now (a .journal))) (a .n) _ (rn .runs .ensures) (not-false _ (e1 .if1 .left)) (a .k) (a .e) (c .if2 .taken)
 
-may-write-requires : tie.Need-may-write-requires
-may-write-requires c κs = search needs
-
 returns-3 : tie.Need-returns-3
 returns-3 c =
     let mw = c .before in
@@ -38,18 +32,6 @@ returns-3 c =
     let a = rn .before .before .before .before .args in
     update-full (roomOf (length (now (a .journal)))) (meaning (a .h) (now (a .keys)) (now (a .values)) (now (a .journal))) (a .n) _ (rn .runs .ensures) (not-false _ (e1 .if1 .left)) (a .k) (a .e) (e2 .if2 .left) _
     (mw .may-write .ensures) (not-true _ (c .if3 .taken))
-
-count-running-requires : tie.Need-count-running-requires
-count-running-requires c κs = search needs
-
-room-requires : tie.Need-room-requires
-room-requires c κs = search needs
-
-add-if4 : tie.Need-add-if4
-add-if4 c = search needs
-
-add-if4-2 : tie.Need-add-if4-2
-add-if4-2 c = search needs
 
 returns-4 : tie.Need-returns-4
 returns-4 c =
@@ -81,16 +63,5 @@ returns-5 c =
 
 pub decide-spec : {M : Type 1} → statement M
 decide-spec =
-    tie.close
-    (tie.spec
-    runs-requires
-    returns
-    returns-2
-    may-write-requires
-    returns-3
-    count-running-requires
-    room-requires
-    add-if4
-    add-if4-2
-    returns-4
-    returns-5)
+    tie.close (tie.spec (λ c κs. search needs) returns returns-2 (λ c κs. search needs) returns-3 (λ c κs. search needs) (λ c κs. search needs)
+    (λ c. search needs) (λ c. search needs) returns-4 returns-5)

@@ -6,12 +6,6 @@ use borrow.Author.Needs.{needs}
 use Rattle.journal_store.proofs.update.updated.Statement.{statement}
 use Rattle.journal_store.proofs.update.updated.Tie as tie
 
-enum-known-e : tie.Need-enum-known-e
-enum-known-e c = search needs
-
-enum-known-e-2 : tie.Need-enum-known-e-2
-enum-known-e-2 c = search needs
-
 returns : tie.Need-returns
 returns c =
     let a = c .before .before .before .args in
@@ -23,4 +17,4 @@ returns-2 c =
     sym (ap (λ (e : Effect). updated (a .n) (a .k) e) (c .before .e2 .given .1))
 
 pub updated-spec : {M : Type 1} → statement M
-updated-spec = tie.close (tie.spec enum-known-e enum-known-e-2 returns returns-2)
+updated-spec = tie.close (tie.spec (λ c. search needs) (λ c. search needs) returns returns-2)

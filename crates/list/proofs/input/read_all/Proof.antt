@@ -27,40 +27,16 @@ turned c =
     let k = goes-on (m .result) (at (c .before .before .before) .loop .done) (at (c .before .before .before) .loop .left) (m .ensures) went in
     (omega (arith, simp (length-take, length-drop) at (k .0)), k .1)
 
-loop-holds : tie.Need-loop-holds Inv-loop μ-loop
-loop-holds c = search needs
-
-sub-read-on : tie.Need-sub-read-on Inv-loop μ-loop
-sub-read-on c = search needs
-
-part-read-on-start : tie.Need-part-read-on-start Inv-loop μ-loop
-part-read-on-start c = search needs
-
-part-read-on-end : tie.Need-part-read-on-end Inv-loop μ-loop
-part-read-on-end c = search needs
-
-read-on-requires : tie.Need-read-on-requires Inv-loop μ-loop
-read-on-requires c κs = search needs
-
 next-step-requires : tie.Need-next-step-requires Inv-loop μ-loop
 next-step-requires c κs n e =
     let k = c .before .before .read-on .ensures n e in
     (k .0, omega (arith, simp (length-take, length-drop) at (k .1)))
-
-enum-known-step : tie.Need-enum-known-step Inv-loop μ-loop
-enum-known-step c = search needs
 
 loop-less : tie.Need-loop-less Inv-loop μ-loop
 loop-less c = omega (arith, turned c .0, turned c .1)
 
 loop-again : tie.Need-loop-again Inv-loop μ-loop
 loop-again c = omega (arith, turned c .0, turned c .1)
-
-enum-known-step-2 : tie.Need-enum-known-step-2 Inv-loop μ-loop
-enum-known-step-2 c = search needs
-
-same-length : tie.Need-same-length Inv-loop μ-loop
-same-length c = search needs
 
 returns : tie.Need-returns Inv-loop μ-loop
 returns c n e =
@@ -69,29 +45,10 @@ returns c n e =
     let z : n ≡ at s .loop .done = stops (s .before .before .before .read-on .result) (at s .loop .done) (at s .loop .left) went e in
     omega arith
 
-same-length-2 : tie.Need-same-length-2 Inv-loop μ-loop
-same-length-2 c = search needs
-
 returns-2 : tie.Need-returns-2 Inv-loop μ-loop
 returns-2 c n e = let z : c .before .loop .done ≡ n = cc in omega arith
 
 pub read-all-spec : {M : Type 1} → statement M
 read-all-spec =
-    tie.close
-    (tie.spec
-    Inv-loop
-    μ-loop
-    loop-holds
-    sub-read-on
-    part-read-on-start
-    part-read-on-end
-    read-on-requires
-    next-step-requires
-    enum-known-step
-    loop-less
-    loop-again
-    enum-known-step-2
-    same-length
-    returns
-    same-length-2
-    returns-2)
+    tie.close (tie.spec Inv-loop μ-loop (λ c. search needs) (λ c. search needs) (λ c. search needs) (λ c. search needs) (λ c κs. search needs)
+    next-step-requires (λ c. search needs) loop-less loop-again (λ c. search needs) (λ c. search needs) returns (λ c. search needs) returns-2)

@@ -13,26 +13,11 @@ again : (done left : ℕ) → (left ≡ 0 → ⊥) → On done (left - 1) ≡ st
 again done zero h = absurd (h refl)
 again done (suc left) h = ap (On done) (omega arith)
 
-enum-known-moved : tie.Need-enum-known-moved
-enum-known-moved c = search needs
-
 add-t6 : tie.Need-add-t6
 add-t6 c = omega (arith, c .before .before .before .pre _ (c .before .moved .given .1) .1)
 
-enum-told : tie.Need-enum-told
-enum-told c = search needs
-
-enum-told-2 : tie.Need-enum-told-2
-enum-told-2 c = search needs
-
 returns : tie.Need-returns
 returns c = rw (c .before .enum-told2 .given .1, c .if1 .taken)
-
-sub-t10 : tie.Need-sub-t10
-sub-t10 c = search needs
-
-enum-told-3 : tie.Need-enum-told-3
-enum-told-3 c = search needs
 
 returns-2 : tie.Need-returns-2
 returns-2 c = rw (c .before .moved .given .1)
@@ -48,16 +33,5 @@ returns-5 c = rw (c .enum-told3 .given .1)
 
 pub next-step-spec : {M : Type 1} → statement M
 next-step-spec =
-    tie.close
-    (tie.spec
-    enum-known-moved
-    add-t6
-    enum-told
-    enum-told-2
-    returns
-    sub-t10
-    enum-told-3
-    returns-2
-    returns-3
-    returns-4
-    returns-5)
+    tie.close (tie.spec (λ c. search needs) add-t6 (λ c. search needs) (λ c. search needs) returns (λ c. search needs) (λ c. search needs) returns-2
+    returns-3 returns-4 returns-5)

@@ -27,28 +27,10 @@ turned c =
     let k = goes-on (m .result) (at (c .before .before .before) .loop .done) (at (c .before .before .before) .loop .left) (m .ensures) went in
     (omega (arith, simp (length-take, length-drop) at (k .0)), k .1)
 
-loop-holds : tie.Need-loop-holds Inv-loop μ-loop
-loop-holds c = search needs
-
-sub-write-on : tie.Need-sub-write-on Inv-loop μ-loop
-sub-write-on c = search needs
-
-part-write-on-start : tie.Need-part-write-on-start Inv-loop μ-loop
-part-write-on-start c = search needs
-
-part-write-on-end : tie.Need-part-write-on-end Inv-loop μ-loop
-part-write-on-end c = search needs
-
-write-on-requires : tie.Need-write-on-requires Inv-loop μ-loop
-write-on-requires c κs = search needs
-
 next-step-requires : tie.Need-next-step-requires Inv-loop μ-loop
 next-step-requires c κs n e =
     let k = c .write-on .ensures n e in
     (k .0, omega (arith, simp (length-take, length-drop) at (k .1)))
-
-enum-known-step : tie.Need-enum-known-step Inv-loop μ-loop
-enum-known-step c = search needs
 
 loop-less : tie.Need-loop-less Inv-loop μ-loop
 loop-less c = omega (arith, turned c .0, turned c .1)
@@ -56,30 +38,7 @@ loop-less c = omega (arith, turned c .0, turned c .1)
 loop-again : tie.Need-loop-again Inv-loop μ-loop
 loop-again c = omega (arith, turned c .0, turned c .1)
 
-enum-told : tie.Need-enum-told Inv-loop μ-loop
-enum-told c = search needs
-
-returns : tie.Need-returns Inv-loop μ-loop
-returns c = search needs
-
-returns-2 : tie.Need-returns-2 Inv-loop μ-loop
-returns-2 c = search needs
-
 pub write-all-spec : {M : Type 1} → statement M
 write-all-spec =
-    tie.close
-    (tie.spec
-    Inv-loop
-    μ-loop
-    loop-holds
-    sub-write-on
-    part-write-on-start
-    part-write-on-end
-    write-on-requires
-    next-step-requires
-    enum-known-step
-    loop-less
-    loop-again
-    enum-told
-    returns
-    returns-2)
+    tie.close (tie.spec Inv-loop μ-loop (λ c. search needs) (λ c. search needs) (λ c. search needs) (λ c. search needs) (λ c κs. search needs)
+    next-step-requires (λ c. search needs) loop-less loop-again (λ c. search needs) (λ c. search needs) (λ c. search needs))

@@ -3,11 +3,8 @@ use borrow.Author.Needs.{needs}
 use Rattle.map_store.proofs.MapHead.empty.Statement.{statement}
 use Rattle.map_store.proofs.MapHead.empty.Tie as tie
 
-empty-requires : tie.Need-empty-requires
-empty-requires c κs = search needs
-
 returns : tie.Need-returns
 returns c = rw (c .empty .ensures)
 
 pub empty-spec : {M : Type 1} → statement M
-empty-spec = tie.close (tie.spec empty-requires returns)
+empty-spec = tie.close (tie.spec (λ c κs. search needs) returns)

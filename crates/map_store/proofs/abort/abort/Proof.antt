@@ -26,12 +26,6 @@ freed : (h : MapHead) (n : ℕ) (f : Found) → f ≡ slotOf (h .slots) n → (i
     → withSlots h s ≡ abortedHead (slotOf (h .slots) n) h
 freed h n f e i g s d = rw (sym e ∙ g, d)
 
-shaped-requires : tie.Need-shaped-requires
-shaped-requires c κs = search needs
-
-refused-requires : tie.Need-refused-requires
-refused-requires c κs = search needs
-
 returns : tie.Need-returns
 returns c =
     let t1 = c .before in
@@ -41,26 +35,11 @@ returns c =
     rw (c .refused .ensures .0, c .refused .ensures .1)
     (bad-shape (Abort (a .n)) (a .h) cs (sym (sh .shaped .ensures .0) ∙ not-true _ (t1 .if1 .taken)))
 
-find-requires : tie.Need-find-requires
-find-requires c κs = search needs
-
-enum-known-i : tie.Need-enum-known-i
-enum-known-i c = search needs
-
 closed-requires : tie.Need-closed-requires
 closed-requires c κs =
     let at = c .before in
     let fd = at .before .before in
     fd .find .ensures .1 (at .i .given .0 .0) (at .i .given .1)
-
-accepted-requires : tie.Need-accepted-requires
-accepted-requires c κs = search needs
-
-enum-told : tie.Need-enum-told
-enum-told c = search needs
-
-refused-requires-2 : tie.Need-refused-requires-2
-refused-requires-2 c κs = search needs
 
 returns-2 : tie.Need-returns-2
 returns-2 c =
@@ -94,16 +73,5 @@ returns-3 c =
 
 pub abort-spec : {M : Type 1} → statement M
 abort-spec =
-    tie.close
-    (tie.spec
-    shaped-requires
-    refused-requires
-    returns
-    find-requires
-    enum-known-i
-    closed-requires
-    accepted-requires
-    enum-told
-    refused-requires-2
-    returns-2
-    returns-3)
+    tie.close (tie.spec (λ c κs. search needs) (λ c κs. search needs) returns (λ c κs. search needs) (λ c. search needs) closed-requires
+    (λ c κs. search needs) (λ c. search needs) (λ c κs. search needs) returns-2 returns-3)

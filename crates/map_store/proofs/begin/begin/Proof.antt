@@ -10,9 +10,6 @@ use denote.Ref.{now}
 use Rattle.map_store.proofs.begin.begin.Statement.{statement}
 use Rattle.map_store.proofs.begin.begin.Tie as tie
 
-shaped-requires : tie.Need-shaped-requires
-shaped-requires c κs = search needs
-
 returns : tie.Need-returns
 returns c =
     let sh = c .before in
@@ -25,9 +22,6 @@ decide-requires c κs =
     let e1 = c in
     let sh = e1 .before in
     sh .shaped .ensures .1 (not-false _ (e1 .if1 .left))
-
-accepted-requires : tie.Need-accepted-requires
-accepted-requires c κs = search needs
 
 open-requires : tie.Need-open-requires
 open-requires c κs =
@@ -49,6 +43,4 @@ returns-2 c =
     (ofBegun (dc .decide .result)) (dc .decide .ensures) _ (ac .accepted .ensures) _ (c .«open» .ensures)
 
 pub begin-spec : {M : Type 1} → statement M
-begin-spec =
-    tie.close
-    (tie.spec shaped-requires returns decide-requires accepted-requires open-requires returns-2)
+begin-spec = tie.close (tie.spec (λ c κs. search needs) returns decide-requires (λ c κs. search needs) open-requires returns-2)

@@ -31,12 +31,6 @@ returns-2 c =
     say 5 (mapRefusal (Begin (a .t)) m) (Present (a .h .next))
     (time-future m (a .t) _ (e1 .if1 .left) (c .if2 .taken))
 
-running-requires : tie.Need-running-requires
-running-requires c κs = search needs
-
-cast-if3 : tie.Need-cast-if3
-cast-if3 c = search needs
-
 returns-3 : tie.Need-returns-3
 returns-3 c =
     let ru = c .before in
@@ -76,5 +70,4 @@ returns-5 c =
     (begin-begun m (a .t) (e1 .if1 .left) (e2 .if2 .left) _ (ru .running .ensures ∙ sym (occupied-places (a .h .slots) (st .pre .formed .byte))) (e3 .if3 .left) (c .if4 .left))
 
 pub decide-spec : {M : Type 1} → statement M
-decide-spec =
-    tie.close (tie.spec returns returns-2 running-requires cast-if3 returns-3 returns-4 returns-5)
+decide-spec = tie.close (tie.spec returns returns-2 (λ c κs. search needs) (λ c. search needs) returns-3 returns-4 returns-5)

@@ -21,17 +21,11 @@ add-t6 c =
     let st = th .before in
     omega (arith, st .pre (th .if1 .taken))
 
-opened-requires : tie.Need-opened-requires
-opened-requires c κs = search needs
-
 returns : tie.Need-returns
 returns c =
     let th = c .before .before .before in
     let a = th .before .args in
     begun (a .h) (a .t) _ (th .if1 .taken) _ (c .opened .ensures)
 
-returns-2 : tie.Need-returns-2
-returns-2 c = search needs
-
 pub open-spec : {M : Type 1} → statement M
-open-spec = tie.close (tie.spec add-t6 opened-requires returns returns-2)
+open-spec = tie.close (tie.spec add-t6 (λ c κs. search needs) returns (λ c. search needs))

@@ -36,9 +36,6 @@ returns-3 c =
     say 5 (lookupRefusal (a .k) (a .t) m) (valueAt (a .k) (a .t) (m .versions))
     (lookup-time m (a .t) (a .k) (e1 .if1 .left) ∙ time-future m (a .t) 0 (e2 .if2 .left) (c .if3 .taken))
 
-value-at-requires : tie.Need-value-at-requires
-value-at-requires c κs = search needs
-
 returns-4 : tie.Need-returns-4
 returns-4 c =
     let e3 = c .before in
@@ -51,4 +48,4 @@ returns-4 c =
     (lookup-time m (a .t) (a .k) (e1 .if1 .left) ∙ time-inside m (a .t) 0 (e2 .if2 .left) (e3 .if3 .left))
 
 pub decide-spec : {M : Type 1} → statement M
-decide-spec = tie.close (tie.spec returns returns-2 returns-3 value-at-requires returns-4)
+decide-spec = tie.close (tie.spec returns returns-2 returns-3 (λ c κs. search needs) returns-4)

@@ -18,12 +18,6 @@ reads : (m : MapStore) (n k : ℕ) (s : Slot) → placeOf n (m .places) ≡ take
     → v ≡ readIn n k m
 reads m n k s p v d = rw p d
 
-find-requires : tie.Need-find-requires
-find-requires c κs = search needs
-
-enum-known-i : tie.Need-enum-known-i
-enum-known-i c = search needs
-
 returns : tie.Need-returns
 returns c =
     let at = c .before .before in
@@ -51,9 +45,6 @@ current-value-requires c κs =
     let cs = columns (now (a .keys)) (now (a .times)) (now (a .values)) in
     (rw (sl .at .ensures) (rowed-found (a .h .slots) (a .n) _ (fd .find .ensures .0) _ (at .i .given .1) (st .pre .formed)), lent (a .h) cs (st .pre))
 
-enum-told : tie.Need-enum-told
-enum-told c = search needs
-
 returns-2 : tie.Need-returns-2
 returns-2 c =
     let sl = c .before in
@@ -78,13 +69,4 @@ returns-3 c =
 
 pub decide-spec : {M : Type 1} → statement M
 decide-spec =
-    tie.close
-    (tie.spec
-    find-requires
-    enum-known-i
-    returns
-    at-requires
-    current-value-requires
-    enum-told
-    returns-2
-    returns-3)
+    tie.close (tie.spec (λ c κs. search needs) (λ c. search needs) returns at-requires current-value-requires (λ c. search needs) returns-2 returns-3)

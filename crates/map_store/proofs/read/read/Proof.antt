@@ -12,9 +12,6 @@ use denote.Ref.{now}
 use Rattle.map_store.proofs.read.read.Statement.{statement}
 use Rattle.map_store.proofs.read.read.Tie as tie
 
-shaped-requires : tie.Need-shaped-requires
-shaped-requires c κs = search needs
-
 returns : tie.Need-returns
 returns c =
     let sh = c .before in
@@ -39,4 +36,4 @@ returns-2 c =
     (number-good (a .h) cs (readRefusal (a .n) (a .k)) (sym (sh .shaped .ensures .0) ∙ not-false _ (e1 .if1 .left))) _ (c .decide .ensures)
 
 pub read-spec : {M : Type 1} → statement M
-read-spec = tie.close (tie.spec shaped-requires returns decide-requires returns-2)
+read-spec = tie.close (tie.spec (λ c κs. search needs) returns decide-requires returns-2)

@@ -29,15 +29,6 @@ module _ (s : Slot) (w : Rowed s) (k : ℕ) (f : Found) (e : f ≡ rowOf s k) wh
       (λ l. rw (l, le-ltb (s .count) 32 (leb-true 32 (s .count) l)))
       (λ l. rw (l, lt-ltb (s .count) 32 (leb-false 32 (s .count) l))))
 
-find-requires : tie.Need-find-requires
-find-requires c κs = search needs
-
-enum-told : tie.Need-enum-told
-enum-told c = search needs
-
-enum-told-2 : tie.Need-enum-told-2
-enum-told-2 c = search needs
-
 returns : tie.Need-returns
 returns c =
     let fd = c .before .before in
@@ -52,4 +43,4 @@ returns-2 c =
     not-there (st .args .s) (st .pre) (st .args .k) _ (fd .find .ensures .0) (et .enum-told2 .given .1)
 
 pub is-full-spec : {M : Type 1} → statement M
-is-full-spec = tie.close (tie.spec find-requires enum-told enum-told-2 returns returns-2)
+is-full-spec = tie.close (tie.spec (λ c κs. search needs) (λ c. search needs) (λ c. search needs) returns returns-2)

@@ -12,21 +12,6 @@ use Rattle.map_store.proofs.update.running_value.Tie as tie
 assigned : (e : Effect) (v : ℕ) (old : Value) → e ≡ Assign v → v ≡ orZero (applied e old)
 assigned e v old h = rw h
 
-enum-known-e : tie.Need-enum-known-e
-enum-known-e c = search needs
-
-enum-told : tie.Need-enum-told
-enum-told c = search needs
-
-current-value-requires : tie.Need-current-value-requires
-current-value-requires c κs = search needs
-
-apply-requires : tie.Need-apply-requires
-apply-requires c κs = search needs
-
-or-zero-requires : tie.Need-or-zero-requires
-or-zero-requires c κs = search needs
-
 returns : tie.Need-returns
 returns c = assigned _ _ _ (c .before .e .given .1)
 
@@ -39,4 +24,4 @@ returns-2 c =
 
 pub running-value-spec : {M : Type 1} → statement M
 running-value-spec =
-    tie.close (tie.spec enum-known-e enum-told current-value-requires apply-requires or-zero-requires returns returns-2)
+    tie.close (tie.spec (λ c. search needs) (λ c. search needs) (λ c κs. search needs) (λ c κs. search needs) (λ c κs. search needs) returns returns-2)

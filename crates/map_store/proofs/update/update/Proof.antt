@@ -36,12 +36,6 @@ changed : (h : MapHead) (n k : ℕ) (x : Effect) (vs : List Version) (f : Found)
     → withSlots h (record { occupied = h .slots .occupied; slots = set (h .slots .slots) i s }) ≡ updatedHead k x (slotOf (h .slots) n) h vs
 changed h n k x vs f e i g v ev s es = rw (sym e ∙ g, es, ev)
 
-shaped-requires : tie.Need-shaped-requires
-shaped-requires c κs = search needs
-
-refused-requires : tie.Need-refused-requires
-refused-requires c κs = search needs
-
 returns : tie.Need-returns
 returns c =
     let t1 = c .before in
@@ -51,18 +45,6 @@ returns c =
     rw (c .refused .ensures .0, c .refused .ensures .1)
     (bad-shape (Update (a .n) (a .k) (a .e)) (a .h) cs
     (sym (sh .shaped .ensures .0) ∙ not-true _ (t1 .if1 .taken)))
-
-find-requires : tie.Need-find-requires
-find-requires c κs = search needs
-
-enum-known-found : tie.Need-enum-known-found
-enum-known-found c = search needs
-
-enum-told : tie.Need-enum-told
-enum-told c = search needs
-
-refused-requires-2 : tie.Need-refused-requires-2
-refused-requires-2 c κs = search needs
 
 returns-2 : tie.Need-returns-2
 returns-2 c =
@@ -77,9 +59,6 @@ returns-2 c =
     (sym (sh .shaped .ensures .0) ∙ not-false _ (e1 .if1 .left)) _ UnknownTransaction (c .refused2 .ensures)
     (say 2 (mapRefusal (Update (a .n) (a .k) (a .e)) m) Absent
     (update-unknown m (a .n) (place-none (a .h .slots) (a .n) _ (fd .find .ensures .0) (et .enum-told .given .1)) (a .k) (a .e)))
-
-refused-requires-3 : tie.Need-refused-requires-3
-refused-requires-3 c κs = search needs
 
 returns-3 : tie.Need-returns-3
 returns-3 c =
@@ -118,9 +97,6 @@ is-full-requires c κs =
     let a = sh .before .before .before .before .args in
     rowed-found (a .h .slots) (a .n) _ (fd .find .ensures .0) _ (fo .found .given .1) (sh .shaped .ensures .1 (not-false _ (e1 .if1 .left)) .formed)
 
-refused-requires-4 : tie.Need-refused-requires-4
-refused-requires-4 c κs = search needs
-
 returns-4 : tie.Need-returns-4
 returns-4 c =
     let t3 = c .before in
@@ -151,9 +127,6 @@ running-value-requires c κs =
     let w = sh .shaped .ensures .1 (not-false _ (e1 .if1 .left)) in
     (rowed-found (a .h .slots) (a .n) _ (fd .find .ensures .0) _ (fo .found .given .1) (w .formed), lent (a .h) cs w)
 
-note-requires : tie.Need-note-requires
-note-requires c κs = search needs
-
 mul-t15 : tie.Need-mul-t15
 mul-t15 c =
     let fo = c .before .before .before .before .before .before .before in
@@ -166,9 +139,6 @@ element-set-from-slots c =
     let fo = c .before .before .before .before .before .before .before in
     let fd = fo .before .before in
     fd .find .ensures .1 (fo .found .given .0 .0) (fo .found .given .1)
-
-accepted-requires : tie.Need-accepted-requires
-accepted-requires c κs = search needs
 
 returns-5 : tie.Need-returns-5
 returns-5 c =
@@ -193,26 +163,6 @@ returns-5 c =
 
 pub update-spec : {M : Type 1} → statement M
 update-spec =
-    tie.close
-    (tie.spec
-    shaped-requires
-    refused-requires
-    returns
-    find-requires
-    enum-known-found
-    enum-told
-    refused-requires-2
-    returns-2
-    refused-requires-3
-    returns-3
-    mul-s
-    element-copy-out-s
-    is-full-requires
-    refused-requires-4
-    returns-4
-    running-value-requires
-    note-requires
-    mul-t15
-    element-set-from-slots
-    accepted-requires
-    returns-5)
+    tie.close (tie.spec (λ c κs. search needs) (λ c κs. search needs) returns (λ c κs. search needs) (λ c. search needs) (λ c. search needs)
+    (λ c κs. search needs) returns-2 (λ c κs. search needs) returns-3 mul-s element-copy-out-s is-full-requires (λ c κs. search needs) returns-4
+    running-value-requires (λ c κs. search needs) mul-t15 element-set-from-slots (λ c κs. search needs) returns-5)

@@ -41,12 +41,6 @@ module _ (marks : List Bool) (cs : Columns) (T n : ℕ) (h : (i : ℕ) → i < n
             (λ field cells k. over-cleared field kept cells n (length-kept T n cs)));
       }
 
-mark-kept-requires : tie.Need-mark-kept-requires
-mark-kept-requires c κs = search needs
-
-move-up-requires : tie.Need-move-up-requires
-move-up-requires c κs = search needs
-
 clear-requires : tie.Need-clear-requires
 clear-requires c κs =
     let m = c .before .before .before .before .before .before .before .before .before in
@@ -58,24 +52,6 @@ clear-requires c κs =
       lent-long p (record { keys = m .move-up .kept .0; times = m .move-up .kept .1 .0; values = m .move-up .kept .1 .1 .0 }),
       few _ cs (a .t) (a .used) (k .mark-kept .ensures cs) (m .move-up .ensures),
     )
-
-same-length : tie.Need-same-length
-same-length c = search needs
-
-same-length-2 : tie.Need-same-length-2
-same-length-2 c = search needs
-
-same-length-3 : tie.Need-same-length-3
-same-length-3 c = search needs
-
-same-length-4 : tie.Need-same-length-4
-same-length-4 c = search needs
-
-same-length-5 : tie.Need-same-length-5
-same-length-5 c = search needs
-
-same-length-6 : tie.Need-same-length-6
-same-length-6 c = search needs
 
 returns : tie.Need-returns
 returns c =
@@ -89,15 +65,5 @@ returns c =
 
 pub keep-spec : {M : Type 1} → statement M
 keep-spec =
-    tie.close
-    (tie.spec
-    mark-kept-requires
-    move-up-requires
-    clear-requires
-    same-length
-    same-length-2
-    same-length-3
-    same-length-4
-    same-length-5
-    same-length-6
-    returns)
+    tie.close (tie.spec (λ c κs. search needs) (λ c κs. search needs) clear-requires (λ c. search needs) (λ c. search needs) (λ c. search needs)
+    (λ c. search needs) (λ c. search needs) (λ c. search needs) returns)

@@ -32,12 +32,6 @@ marked ks ts others t n {b' = b'} {m = m} w i late also all p q r =
     rw (r, q, p)
     (last-first (isRow i (newest 0 t (versionsOf n (keyed ks ts others)))) (among i (take m b')) (ltb t (getD ts i 0)) ∙ rw (kept-row ks ts t n w others i))
 
-newest-rows-requires : tie.Need-newest-rows-requires
-newest-rows-requires c κs = search needs
-
-mark-late-requires : tie.Need-mark-late-requires
-mark-late-requires c κs = search needs
-
 mark-named-requires : tie.Need-mark-named-requires
 mark-named-requires c κs =
     let l = c .before .before .before .before in
@@ -47,18 +41,6 @@ mark-named-requires c κs =
       next-within _ _ _ _ _ _ (g .newest-rows .ensures) .in-values,
       λ x h. omega (arith, named (now (a .keys)) (now (a .times)) (a .t) (a .used) (g .newest-rows .ensures) x h),
     )
-
-mark-zero-requires : tie.Need-mark-zero-requires
-mark-zero-requires c κs = search needs
-
-same-length : tie.Need-same-length
-same-length c = search needs
-
-same-length-2 : tie.Need-same-length-2
-same-length-2 c = search needs
-
-same-length-3 : tie.Need-same-length-3
-same-length-3 c = search needs
 
 returns : tie.Need-returns
 returns c others i h =
@@ -73,13 +55,5 @@ returns c others i h =
 
 pub mark-kept-spec : {M : Type 1} → statement M
 mark-kept-spec =
-    tie.close
-    (tie.spec
-    newest-rows-requires
-    mark-late-requires
-    mark-named-requires
-    mark-zero-requires
-    same-length
-    same-length-2
-    same-length-3
-    returns)
+    tie.close (tie.spec (λ c κs. search needs) (λ c κs. search needs) mark-named-requires (λ c κs. search needs) (λ c. search needs)
+    (λ c. search needs) (λ c. search needs) returns)

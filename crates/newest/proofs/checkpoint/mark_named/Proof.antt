@@ -50,12 +50,6 @@ abbrev μ-loop : tie.MeasureT-loop
 loop-holds : tie.Need-loop-holds Inv-loop μ-loop
 loop-holds c = (omega arith, refl, λ i. refl)
 
-mul-marks : tie.Need-mul-marks Inv-loop μ-loop
-mul-marks c = search needs
-
-shared-slice-read-marks : tie.Need-shared-slice-read-marks Inv-loop μ-loop
-shared-slice-read-marks c = search needs
-
 cast-marks : tie.Need-cast-marks Inv-loop μ-loop
 cast-marks c = omega (arith, c .shared-slice-known .given (c .before .before .loop .x))
 
@@ -63,12 +57,6 @@ slice-write-marks : tie.Need-slice-write-marks Inv-loop μ-loop
 slice-write-marks c =
     let l = c .before .before .loop in
     omega (arith, c .before .before .before .pre .1 (l .x) (omega arith))
-
-add-x : tie.Need-add-x Inv-loop μ-loop
-add-x c = search needs
-
-loop-less : tie.Need-loop-less Inv-loop μ-loop
-loop-less c = search needs
 
 loop-again : tie.Need-loop-again Inv-loop μ-loop
 loop-again c =
@@ -95,17 +83,5 @@ returns c i =
 
 pub mark-named-spec : {M : Type 1} → statement M
 mark-named-spec =
-    tie.close
-    (tie.spec
-    Inv-loop
-    μ-loop
-    loop-holds
-    mul-marks
-    shared-slice-read-marks
-    cast-marks
-    slice-write-marks
-    add-x
-    loop-less
-    loop-again
-    same-length
-    returns)
+    tie.close (tie.spec Inv-loop μ-loop loop-holds (λ c. search needs) (λ c. search needs) cast-marks slice-write-marks (λ c. search needs)
+    (λ c. search needs) loop-again same-length returns)

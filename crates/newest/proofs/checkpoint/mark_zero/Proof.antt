@@ -35,24 +35,12 @@ module _ (ks ts : List ℕ) (n t : ℕ) (marks : List Bool) (f : Found)
       → getD marks i false ≡ (isRow i (newest 0 t (versionsOf n (keyed ks ts others))) || getD marks i false)
   none e others i = rw (none-found 0 t (keyed ks ts others) n (sym (h others) ∙ e))
 
-newest-row-requires : tie.Need-newest-row-requires
-newest-row-requires c κs = search needs
-
-enum-known-found : tie.Need-enum-known-found
-enum-known-found c = search needs
-
 slice-write-marks : tie.Need-slice-write-marks
 slice-write-marks c =
     let f = c .before in
     let g = f .before .before in
     let a = g .before .before .before .before .args in
     omega (arith, within (now (a .keys)) (now (a .times)) (a .used) (a .t) (now (a .marks)) _ (g .newest-row .ensures) _ (f .found .given .1))
-
-enum-told : tie.Need-enum-told
-enum-told c = search needs
-
-same-length : tie.Need-same-length
-same-length c = search needs
 
 returns : tie.Need-returns
 returns c =
@@ -70,12 +58,4 @@ returns-2 c =
 
 pub mark-zero-spec : {M : Type 1} → statement M
 mark-zero-spec =
-    tie.close
-    (tie.spec
-    newest-row-requires
-    enum-known-found
-    slice-write-marks
-    enum-told
-    same-length
-    returns
-    returns-2)
+    tie.close (tie.spec (λ c κs. search needs) (λ c. search needs) slice-write-marks (λ c. search needs) (λ c. search needs) returns returns-2)

@@ -65,54 +65,6 @@ loop-holds c = (
   record { count = refl; cells = refl },
 )
 
-shared-slice-read-if1 : tie.Need-shared-slice-read-if1 Inv-loop μ-loop
-shared-slice-read-if1 c = search needs
-
-mul-keys : tie.Need-mul-keys Inv-loop μ-loop
-mul-keys c = search needs
-
-slice-read-keys : tie.Need-slice-read-keys Inv-loop μ-loop
-slice-read-keys c = search needs
-
-mul-keys-2 : tie.Need-mul-keys-2 Inv-loop μ-loop
-mul-keys-2 c = search needs
-
-slice-write-keys : tie.Need-slice-write-keys Inv-loop μ-loop
-slice-write-keys c = search needs
-
-mul-times : tie.Need-mul-times Inv-loop μ-loop
-mul-times c = search needs
-
-slice-read-times : tie.Need-slice-read-times Inv-loop μ-loop
-slice-read-times c = search needs
-
-mul-times-2 : tie.Need-mul-times-2 Inv-loop μ-loop
-mul-times-2 c = search needs
-
-slice-write-times : tie.Need-slice-write-times Inv-loop μ-loop
-slice-write-times c = search needs
-
-mul-values : tie.Need-mul-values Inv-loop μ-loop
-mul-values c = search needs
-
-slice-read-values : tie.Need-slice-read-values Inv-loop μ-loop
-slice-read-values c = search needs
-
-mul-values-2 : tie.Need-mul-values-2 Inv-loop μ-loop
-mul-values-2 c = search needs
-
-slice-write-values : tie.Need-slice-write-values Inv-loop μ-loop
-slice-write-values c = search needs
-
-add-kept : tie.Need-add-kept Inv-loop μ-loop
-add-kept c = search needs
-
-add-i : tie.Need-add-i Inv-loop μ-loop
-add-i c = search needs
-
-loop-less : tie.Need-loop-less Inv-loop μ-loop
-loop-less c = search needs
-
 loop-again : tie.Need-loop-again Inv-loop μ-loop
 loop-again c =
     let l = c .before .before .before .loop in
@@ -134,15 +86,6 @@ loop-again c =
     ))
     (c .if1 .came)
 
-same-length : tie.Need-same-length Inv-loop μ-loop
-same-length c = search needs
-
-same-length-2 : tie.Need-same-length-2 Inv-loop μ-loop
-same-length-2 c = search needs
-
-same-length-3 : tie.Need-same-length-3 Inv-loop μ-loop
-same-length-3 c = search needs
-
 returns : tie.Need-returns Inv-loop μ-loop
 returns c =
     let l = c .before .loop in
@@ -151,29 +94,7 @@ returns c =
 
 pub move-up-spec : {M : Type 1} → statement M
 move-up-spec =
-    tie.close
-    (tie.spec
-    Inv-loop
-    μ-loop
-    loop-holds
-    shared-slice-read-if1
-    mul-keys
-    slice-read-keys
-    mul-keys-2
-    slice-write-keys
-    mul-times
-    slice-read-times
-    mul-times-2
-    slice-write-times
-    mul-values
-    slice-read-values
-    mul-values-2
-    slice-write-values
-    add-kept
-    add-i
-    loop-less
-    loop-again
-    same-length
-    same-length-2
-    same-length-3
-    returns)
+    tie.close (tie.spec Inv-loop μ-loop loop-holds (λ c. search needs) (λ c. search needs) (λ c. search needs) (λ c. search needs) (λ c. search needs)
+    (λ c. search needs) (λ c. search needs) (λ c. search needs) (λ c. search needs) (λ c. search needs) (λ c. search needs) (λ c. search needs)
+    (λ c. search needs) (λ c. search needs) (λ c. search needs) (λ c. search needs) loop-again (λ c. search needs) (λ c. search needs)
+    (λ c. search needs) returns)

@@ -47,12 +47,6 @@ loop-holds : tie.Need-loop-holds Inv-loop μ-loop
 loop-holds c =
     (omega arith, refl, refl)
 
-mul-places : tie.Need-mul-places Inv-loop μ-loop
-mul-places c = search needs
-
-slice-read-places : tie.Need-slice-read-places Inv-loop μ-loop
-slice-read-places c = search needs
-
 cast-places : tie.Need-cast-places Inv-loop μ-loop
 cast-places c =
     omega (arith, c .slice-known .given (c .before .before .loop .i))
@@ -67,18 +61,6 @@ shared-slice-read-places c =
     let s = c .before .before .before .before in
     let a = s .args in
     omega (arith, next (now (a .values)) (now (a .places)) (l .i) (omega arith) (l .places) (l .inv .2), s .pre .1 (l .i) (omega arith))
-
-mul-places-3 : tie.Need-mul-places-3 Inv-loop μ-loop
-mul-places-3 c = search needs
-
-slice-write-places : tie.Need-slice-write-places Inv-loop μ-loop
-slice-write-places c = search needs
-
-add-i : tie.Need-add-i Inv-loop μ-loop
-add-i c = search needs
-
-loop-less : tie.Need-loop-less Inv-loop μ-loop
-loop-less c = search needs
 
 loop-again : tie.Need-loop-again Inv-loop μ-loop
 loop-again c =
@@ -100,20 +82,5 @@ returns c =
 
 pub follow-spec : {M : Type 1} → statement M
 follow-spec =
-    tie.close
-    (tie.spec
-    Inv-loop
-    μ-loop
-    loop-holds
-    mul-places
-    slice-read-places
-    cast-places
-    mul-places-2
-    shared-slice-read-places
-    mul-places-3
-    slice-write-places
-    add-i
-    loop-less
-    loop-again
-    same-length
-    returns)
+    tie.close (tie.spec Inv-loop μ-loop loop-holds (λ c. search needs) (λ c. search needs) cast-places mul-places-2 shared-slice-read-places
+    (λ c. search needs) (λ c. search needs) (λ c. search needs) (λ c. search needs) loop-again same-length returns)

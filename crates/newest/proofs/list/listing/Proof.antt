@@ -8,9 +8,6 @@ use borrow.Author.Needs.{needs}
 use Rattle.newest.proofs.list.listing.Statement.{statement}
 use Rattle.newest.proofs.list.listing.Tie as tie
 
-newest-rows-requires : tie.Need-newest-rows-requires
-newest-rows-requires c κs = search needs
-
 follow-requires : tie.Need-follow-requires
 follow-requires c κs =
     let g = c .before .before .before .before .before in
@@ -19,12 +16,6 @@ follow-requires c κs =
       next-within _ _ _ _ _ _ (g .newest-rows .ensures) .in-values,
       λ x l. omega (arith, named (now (a .keys)) (now (a .times)) (a .t) (a .used) (g .newest-rows .ensures) x l, s .pre .1 .values),
     )
-
-same-length : tie.Need-same-length
-same-length c = search needs
-
-same-length-2 : tie.Need-same-length-2
-same-length-2 c = search needs
 
 returns : tie.Need-returns
 returns c =
@@ -35,5 +26,4 @@ returns c =
     listed-columns (columns (now (a .keys)) (now (a .times)) (now (a .values))) (a .t) (a .used) _ _ _ _ _ _ (g .newest-rows .ensures) (f .follow .ensures)
 
 pub listing-spec : {M : Type 1} → statement M
-listing-spec =
-    tie.close (tie.spec newest-rows-requires follow-requires same-length same-length-2 returns)
+listing-spec = tie.close (tie.spec (λ c κs. search needs) follow-requires (λ c. search needs) (λ c. search needs) returns)

@@ -7,12 +7,6 @@ use borrow.Author.Needs.{needs}
 use Rattle.slot.proofs.Slot.find.Statement.{statement}
 use Rattle.slot.proofs.Slot.find.Tie as tie
 
-slice-aggregate-find : tie.Need-slice-aggregate-find
-slice-aggregate-find c = search needs
-
-find-requires : tie.Need-find-requires
-find-requires c κs = search needs
-
 returns : tie.Need-returns
 returns c =
     let a = c .before .before .before .args in
@@ -27,4 +21,4 @@ returns c =
     )
 
 pub find-spec : {M : Type 1} → statement M
-find-spec = tie.close (tie.spec slice-aggregate-find find-requires returns)
+find-spec = tie.close (tie.spec (λ c. search needs) (λ c κs. search needs) returns)

@@ -18,38 +18,14 @@ module _ (s : Slot) (k v : ℕ) (absent : rowOf s k ≡ Nothing) where
   new : s .count < 32 → extended s k v ≡ noted s k v
   new l = rw (absent, lt-ltb (s .count) 32 l)
 
-find-requires : tie.Need-find-requires
-find-requires c κs = search needs
-
-enum-known-i : tie.Need-enum-known-i
-enum-known-i c = search needs
-
 mul-self : tie.Need-mul-self
 mul-self c = omega (arith, c .before .before .before .find .ensures .1 (c .before .i .given .0 .0) (c .before .i .given .1))
 
 element-write-self : tie.Need-element-write-self
 element-write-self c = c .before .before .before .find .ensures .1 (c .before .i .given .0 .0) (c .before .i .given .1)
 
-enum-told : tie.Need-enum-told
-enum-told c = search needs
-
 returns : tie.Need-returns
 returns c = full (c .before .before .before .before .args .t1) _ _ (sym (c .before .before .before .find .ensures .0) ∙ c .before .enum-told .given .1) (c .if1 .taken)
-
-mul-self-2 : tie.Need-mul-self-2
-mul-self-2 c = search needs
-
-element-write-self-2 : tie.Need-element-write-self-2
-element-write-self-2 c = search needs
-
-mul-self-3 : tie.Need-mul-self-3
-mul-self-3 c = search needs
-
-element-write-self-3 : tie.Need-element-write-self-3
-element-write-self-3 c = search needs
-
-add-self : tie.Need-add-self
-add-self c = search needs
 
 returns-2 : tie.Need-returns-2
 returns-2 c = let a = c .before .before .before .before .args in ap (λ (f : Found). notedAt f (a .t1) (a .key) (a .value)) (sym (c .before .i .given .1) ∙ c .before .before .before .find .ensures .0)
@@ -59,18 +35,5 @@ returns-3 c = new (c .before .before .before .before .args .t1) _ _ (sym (c .bef
 
 pub note-spec : {M : Type 1} → statement M
 note-spec =
-    tie.close
-    (tie.spec
-    find-requires
-    enum-known-i
-    mul-self
-    element-write-self
-    enum-told
-    returns
-    mul-self-2
-    element-write-self-2
-    mul-self-3
-    element-write-self-3
-    add-self
-    returns-2
-    returns-3)
+    tie.close (tie.spec (λ c κs. search needs) (λ c. search needs) mul-self element-write-self (λ c. search needs) returns (λ c. search needs)
+    (λ c. search needs) (λ c. search needs) (λ c. search needs) (λ c. search needs) returns-2 returns-3)

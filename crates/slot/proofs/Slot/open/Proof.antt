@@ -5,9 +5,6 @@ use borrow.Author.Needs.{needs}
 use Rattle.slot.proofs.Slot.open.Statement.{statement}
 use Rattle.slot.proofs.Slot.open.Tie as tie
 
-close-requires : tie.Need-close-requires
-close-requires c κs = search needs
-
 returns : tie.Need-returns
 returns c =
     let a = c .before .args in
@@ -16,4 +13,4 @@ returns c =
     (c .close .ensures)
 
 pub open-spec : {M : Type 1} → statement M
-open-spec = tie.close (tie.spec close-requires returns)
+open-spec = tie.close (tie.spec (λ c κs. search needs) returns)

@@ -6,11 +6,8 @@ use borrow.Author.Needs.{needs}
 use Rattle.slot.proofs.Slots.empty.Statement.{statement}
 use Rattle.slot.proofs.Slots.empty.Tie as tie
 
-free-requires : tie.Need-free-requires
-free-requires c κs = search needs
-
 returns : tie.Need-returns
 returns c = ap (λ (s : Slot). record { occupied = 0; slots = replicate 8 s }) (c .free .ensures)
 
 pub empty-spec : {M : Type 1} → statement M
-empty-spec = tie.close (tie.spec free-requires returns)
+empty-spec = tie.close (tie.spec (λ c κs. search needs) returns)

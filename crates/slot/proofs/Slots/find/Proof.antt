@@ -20,12 +20,6 @@ loop-holds : tie.Need-loop-holds Inv-loop μ-loop
 unfolding firstSlot
 loop-holds c = (omega arith, refl)
 
-is-occupied-requires : tie.Need-is-occupied-requires Inv-loop μ-loop
-is-occupied-requires c κs = search needs
-
-at-requires : tie.Need-at-requires Inv-loop μ-loop
-at-requires c κs = search needs
-
 returns : tie.Need-returns Inv-loop μ-loop
 returns c =
     let f = c .before .before in
@@ -36,12 +30,6 @@ returns c =
       met-here (hasNumber (a .number)) (a .self) (l .i) _ (l .inv .1) (omega arith) (sym (o .is-occupied .ensures) ∙ f .before .if1 .taken) s (f .at .ensures) (eq-eqb (s .number) (a .number) (c .if2 .taken)),
       λ j e. let z : l .i ≡ j = cc in omega arith,
     )
-
-add-i : tie.Need-add-i Inv-loop μ-loop
-add-i c = search needs
-
-loop-less : tie.Need-loop-less Inv-loop μ-loop
-loop-less c = search needs
 
 loop-again : tie.Need-loop-again Inv-loop μ-loop
 loop-again c =
@@ -67,15 +55,5 @@ returns-2 c =
 
 pub find-spec : {M : Type 1} → statement M
 find-spec =
-    tie.close
-    (tie.spec
-    Inv-loop
-    μ-loop
-    loop-holds
-    is-occupied-requires
-    at-requires
-    returns
-    add-i
-    loop-less
-    loop-again
-    returns-2)
+    tie.close (tie.spec Inv-loop μ-loop loop-holds (λ c κs. search needs) (λ c κs. search needs) returns (λ c. search needs) (λ c. search needs)
+    loop-again returns-2)

@@ -20,12 +20,6 @@ loop-holds : tie.Need-loop-holds Inv-loop μ-loop
 unfolding firstSlot
 loop-holds c = (omega arith, refl)
 
-is-occupied-requires : tie.Need-is-occupied-requires Inv-loop μ-loop
-is-occupied-requires c κs = search needs
-
-at-requires : tie.Need-at-requires Inv-loop μ-loop
-at-requires c κs = search needs
-
 returns : tie.Need-returns Inv-loop μ-loop
 returns c =
     let f = c .before .before in
@@ -34,12 +28,6 @@ returns c =
     let a = o .before .before .before .args in
     let s = f .at .result in
     ap met (met-here (isBelow (a .t)) (a .self) (l .i) _ (l .inv .1) (omega arith) (sym (o .is-occupied .ensures) ∙ f .before .if1 .taken) s (f .at .ensures) (lt-ltb (s .snapshot) (a .t) (c .if2 .taken)))
-
-add-i : tie.Need-add-i Inv-loop μ-loop
-add-i c = search needs
-
-loop-less : tie.Need-loop-less Inv-loop μ-loop
-loop-less c = search needs
 
 loop-again : tie.Need-loop-again Inv-loop μ-loop
 loop-again c =
@@ -63,15 +51,5 @@ returns-2 c =
 
 pub holds-spec : {M : Type 1} → statement M
 holds-spec =
-    tie.close
-    (tie.spec
-    Inv-loop
-    μ-loop
-    loop-holds
-    is-occupied-requires
-    at-requires
-    returns
-    add-i
-    loop-less
-    loop-again
-    returns-2)
+    tie.close (tie.spec Inv-loop μ-loop loop-holds (λ c κs. search needs) (λ c κs. search needs) returns (λ c. search needs) (λ c. search needs)
+    loop-again returns-2)

@@ -9,14 +9,8 @@ use Rattle.slot.proofs.Slots.is_occupied.Tie as tie
 returns : tie.Need-returns
 returns c = let a = c .before .args in sym (past 8 (a .i) (a .self .occupied) (c .if1 .taken) (search needs))
 
-cast-result : tie.Need-cast-result
-cast-result c = search needs
-
-shr-result : tie.Need-shr-result
-shr-result c = search needs
-
 returns-2 : tie.Need-returns-2
 returns-2 c = let a = c .before .before .args in shifted (a .i) (a .self .occupied)
 
 pub is-occupied-spec : {M : Type 1} → statement M
-is-occupied-spec = tie.close (tie.spec returns cast-result shr-result returns-2)
+is-occupied-spec = tie.close (tie.spec returns (λ c. search needs) (λ c. search needs) returns-2)

@@ -20,32 +20,8 @@ module _ (h : Slots) (number snapshot i : ℕ) (e : i ≡ lowestFree h) where
       → _≡_ {A = Slots} (record { occupied = bitOr (h .occupied) (1 * 2 ^ i % 256); slots = set (h .slots) i (openedSlot number snapshot) }) (openedIn h number snapshot)
   free l = rw (← e, lt-ltb i 8 l, one-bit i l, masked-one i (h .occupied))
 
-lowest-free-requires : tie.Need-lowest-free-requires
-lowest-free-requires c κs = search needs
-
 returns : tie.Need-returns
 returns c = let a = c .before .before .args in full (a .t1) (a .number) (a .snapshot) _ (c .before .lowest-free .ensures) (c .if1 .taken)
-
-mul-s : tie.Need-mul-s
-mul-s c = search needs
-
-element-copy-out-s : tie.Need-element-copy-out-s
-element-copy-out-s c = search needs
-
-open-requires : tie.Need-open-requires
-open-requires c κs = search needs
-
-mul-t9 : tie.Need-mul-t9
-mul-t9 c = search needs
-
-element-set-from-self : tie.Need-element-set-from-self
-element-set-from-self c = search needs
-
-cast-self : tie.Need-cast-self
-cast-self c = search needs
-
-shl-self : tie.Need-shl-self
-shl-self c = search needs
 
 returns-2 : tie.Need-returns-2
 returns-2 c =
@@ -55,15 +31,5 @@ returns-2 c =
 
 pub opened-spec : {M : Type 1} → statement M
 opened-spec =
-    tie.close
-    (tie.spec
-    lowest-free-requires
-    returns
-    mul-s
-    element-copy-out-s
-    open-requires
-    mul-t9
-    element-set-from-self
-    cast-self
-    shl-self
-    returns-2)
+    tie.close (tie.spec (λ c κs. search needs) returns (λ c. search needs) (λ c. search needs) (λ c κs. search needs) (λ c. search needs)
+    (λ c. search needs) (λ c. search needs) (λ c. search needs) returns-2)

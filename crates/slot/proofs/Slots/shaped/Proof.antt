@@ -36,12 +36,6 @@ loop-holds : tie.Need-loop-holds Inv-loop μ-loop
 unfolding firstSlot
 loop-holds c = (omega arith, refl, λ j l. absurd (not-suc-le-zero l))
 
-is-occupied-requires : tie.Need-is-occupied-requires Inv-loop μ-loop
-is-occupied-requires c κs = search needs
-
-at-requires : tie.Need-at-requires Inv-loop μ-loop
-at-requires c κs = search needs
-
 returns : tie.Need-returns Inv-loop μ-loop
 returns c =
     let f = c .before .before in
@@ -54,12 +48,6 @@ returns c =
           (lt-ltb 32 (s .count) (c .if2 .taken))),
       λ e. absurd (false≢true e),
     )
-
-add-i : tie.Need-add-i Inv-loop μ-loop
-add-i c = search needs
-
-loop-less : tie.Need-loop-less Inv-loop μ-loop
-loop-less c = search needs
 
 loop-again : tie.Need-loop-again Inv-loop μ-loop
 loop-again c =
@@ -98,15 +86,5 @@ returns-2 c =
 
 pub shaped-spec : {M : Type 1} → statement M
 shaped-spec =
-    tie.close
-    (tie.spec
-    Inv-loop
-    μ-loop
-    loop-holds
-    is-occupied-requires
-    at-requires
-    returns
-    add-i
-    loop-less
-    loop-again
-    returns-2)
+    tie.close (tie.spec Inv-loop μ-loop loop-holds (λ c κs. search needs) (λ c κs. search needs) returns (λ c. search needs) (λ c. search needs)
+    loop-again returns-2)

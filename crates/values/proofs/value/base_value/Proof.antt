@@ -40,12 +40,6 @@ module _ (keys values : List ℕ) (rows k : ℕ) (there : Rows keys values rows)
   no-row : f ≡ Nothing → Absent ≡ rowValue (firstRows rows keys values) k
   no-row e = rw (same, e)
 
-find-requires : tie.Need-find-requires
-find-requires c κs = search needs
-
-enum-known-found : tie.Need-enum-known-found
-enum-known-found c = search needs
-
 mul-t8 : tie.Need-mul-t8
 mul-t8 c =
     let fi = c .before .before .before in
@@ -61,9 +55,6 @@ shared-slice-read-t10 c =
     let a = fi .before .before .before .args in
     in-values (now (a .keys)) (now (a .values)) (a .rows) (a .k) (fi .before .before .before .pre) _ (fi .find .ensures) _ (c .before .before .found .given .1)
 
-enum-told : tie.Need-enum-told
-enum-told c = search needs
-
 returns : tie.Need-returns
 returns c =
     let fi = c .before .before .before .before in
@@ -77,13 +68,4 @@ returns-2 c =
     no-row (now (a .keys)) (now (a .values)) (a .rows) (a .k) (fi .before .before .before .pre) _ (fi .find .ensures) (c .enum-told .given .1)
 
 pub base-value-spec : {M : Type 1} → statement M
-base-value-spec =
-    tie.close
-    (tie.spec
-    find-requires
-    enum-known-found
-    mul-t8
-    shared-slice-read-t10
-    enum-told
-    returns
-    returns-2)
+base-value-spec = tie.close (tie.spec (λ c κs. search needs) (λ c. search needs) mul-t8 shared-slice-read-t10 (λ c. search needs) returns returns-2)

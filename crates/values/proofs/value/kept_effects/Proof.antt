@@ -16,33 +16,6 @@ Inv-loop transactions kinds amounts count n v₀ i₀ v i = (i ≤ count) × (v 
 abbrev μ-loop : tie.MeasureT-loop
 μ-loop transactions kinds amounts count n v₀ i₀ v i = count - i
 
-loop-holds : tie.Need-loop-holds Inv-loop μ-loop
-loop-holds c = search needs
-
-mul-kept-step : tie.Need-mul-kept-step Inv-loop μ-loop
-mul-kept-step c = search needs
-
-shared-slice-read-kept-step : tie.Need-shared-slice-read-kept-step Inv-loop μ-loop
-shared-slice-read-kept-step c = search needs
-
-shared-slice-read-kept-step-2 : tie.Need-shared-slice-read-kept-step-2 Inv-loop μ-loop
-shared-slice-read-kept-step-2 c = search needs
-
-mul-kept-step-2 : tie.Need-mul-kept-step-2 Inv-loop μ-loop
-mul-kept-step-2 c = search needs
-
-shared-slice-read-kept-step-3 : tie.Need-shared-slice-read-kept-step-3 Inv-loop μ-loop
-shared-slice-read-kept-step-3 c = search needs
-
-kept-step-requires : tie.Need-kept-step-requires Inv-loop μ-loop
-kept-step-requires c κs = search needs
-
-add-i : tie.Need-add-i Inv-loop μ-loop
-add-i c = search needs
-
-loop-less : tie.Need-loop-less Inv-loop μ-loop
-loop-less c = search needs
-
 loop-again : tie.Need-loop-again Inv-loop μ-loop
 loop-again c =
     let l = c .before .before .before .before .before .loop in
@@ -57,18 +30,5 @@ returns c =
 
 pub kept-effects-spec : {M : Type 1} → statement M
 kept-effects-spec =
-    tie.close
-    (tie.spec
-    Inv-loop
-    μ-loop
-    loop-holds
-    mul-kept-step
-    shared-slice-read-kept-step
-    shared-slice-read-kept-step-2
-    mul-kept-step-2
-    shared-slice-read-kept-step-3
-    kept-step-requires
-    add-i
-    loop-less
-    loop-again
-    returns)
+    tie.close (tie.spec Inv-loop μ-loop (λ c. search needs) (λ c. search needs) (λ c. search needs) (λ c. search needs) (λ c. search needs)
+    (λ c. search needs) (λ c κs. search needs) (λ c. search needs) (λ c. search needs) loop-again returns)

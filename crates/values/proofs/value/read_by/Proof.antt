@@ -8,21 +8,6 @@ use Rattle.record.specs.Bytes.{newest}
 use Rattle.values.proofs.value.read_by.Statement.{statement}
 use Rattle.values.proofs.value.read_by.Tie as tie
 
-settle-requires : tie.Need-settle-requires
-settle-requires c κs = search needs
-
-kept-effects-requires : tie.Need-kept-effects-requires
-kept-effects-requires c κs = search needs
-
-same-length : tie.Need-same-length
-same-length c = search needs
-
-same-length-2 : tie.Need-same-length-2
-same-length-2 c = search needs
-
-same-length-3 : tie.Need-same-length-3
-same-length-3 c = search needs
-
 returns : tie.Need-returns
 returns c =
     let p = c .before .before .before .before .before .before .before .before .before .before in
@@ -31,12 +16,4 @@ returns c =
     c .kept-effects .ensures ∙ s .does (a .n) _ ∙ ap (effects (a .k) (of (a .n) (newest (a .used) (now (a .journal))))) (s .is)
 
 pub read-by-spec : {M : Type 1} → statement M
-read-by-spec =
-    tie.close
-    (tie.spec
-    settle-requires
-    kept-effects-requires
-    same-length
-    same-length-2
-    same-length-3
-    returns)
+read-by-spec = tie.close (tie.spec (λ c κs. search needs) (λ c κs. search needs) (λ c. search needs) (λ c. search needs) (λ c. search needs) returns)

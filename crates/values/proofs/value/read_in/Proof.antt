@@ -8,12 +8,6 @@ use Rattle.values.specs.Pass.{readOn}
 use Rattle.values.proofs.value.read_in.Statement.{statement}
 use Rattle.values.proofs.value.read_in.Tie as tie
 
-base-value-requires : tie.Need-base-value-requires
-base-value-requires c κs = search needs
-
-read-requires : tie.Need-read-requires
-read-requires c κs = search needs
-
 returns : tie.Need-returns
 returns c =
     let a = c .before .before .before .before .before .args in
@@ -21,4 +15,4 @@ returns c =
     ∙ ap (λ (v : Value). readOn v (newest (a .used) (now (a .journal))) (a .n) (a .snapshot) (a .k)) (c .before .base-value .ensures)
 
 pub read-in-spec : {M : Type 1} → statement M
-read-in-spec = tie.close (tie.spec base-value-requires read-requires returns)
+read-in-spec = tie.close (tie.spec (λ c κs. search needs) (λ c κs. search needs) returns)

@@ -68,9 +68,6 @@ Inv-loop journal used k t transactions₀ kinds₀ amounts₀ n₀ v₀ i₀ tra
 abbrev μ-loop : tie.MeasureT-loop
 μ-loop journal used k t transactions₀ kinds₀ amounts₀ n₀ v₀ i₀ transactions kinds amounts n v i = used - i
 
-first-update-requires : tie.Need-first-update-requires Inv-loop μ-loop
-first-update-requires c κs = search needs
-
 loop-holds : tie.Need-loop-holds Inv-loop μ-loop
 loop-holds c =
     let a = c .before .before .before .before .before .args in
@@ -86,42 +83,6 @@ loop-holds c =
         is = sym (value-unwritten (a .start) (a .k) (a .t) front none);
       },
     )
-
-read-requires : tie.Need-read-requires Inv-loop μ-loop
-read-requires c κs = search needs
-
-settles-requires : tie.Need-settles-requires Inv-loop μ-loop
-settles-requires c κs = search needs
-
-kept-effects-requires : tie.Need-kept-effects-requires Inv-loop μ-loop
-kept-effects-requires c κs = search needs
-
-writes-requires : tie.Need-writes-requires Inv-loop μ-loop
-writes-requires c κs = search needs
-
-mul-transactions : tie.Need-mul-transactions Inv-loop μ-loop
-mul-transactions c = search needs
-
-slice-write-transactions : tie.Need-slice-write-transactions Inv-loop μ-loop
-slice-write-transactions c = search needs
-
-slice-write-kinds : tie.Need-slice-write-kinds Inv-loop μ-loop
-slice-write-kinds c = search needs
-
-mul-amounts : tie.Need-mul-amounts Inv-loop μ-loop
-mul-amounts c = search needs
-
-slice-write-amounts : tie.Need-slice-write-amounts Inv-loop μ-loop
-slice-write-amounts c = search needs
-
-add-n : tie.Need-add-n Inv-loop μ-loop
-add-n c = search needs
-
-add-i : tie.Need-add-i Inv-loop μ-loop
-add-i c = search needs
-
-loop-less : tie.Need-loop-less Inv-loop μ-loop
-loop-less c = search needs
 
 loop-again : tie.Need-loop-again Inv-loop μ-loop
 loop-again c =
@@ -189,26 +150,6 @@ returns c =
 
 pub settle-spec : {M : Type 1} → statement M
 settle-spec =
-    tie.close
-    (tie.spec
-    Inv-loop
-    μ-loop
-    first-update-requires
-    loop-holds
-    read-requires
-    settles-requires
-    kept-effects-requires
-    writes-requires
-    mul-transactions
-    slice-write-transactions
-    slice-write-kinds
-    mul-amounts
-    slice-write-amounts
-    add-n
-    add-i
-    loop-less
-    loop-again
-    same-length
-    same-length-2
-    same-length-3
-    returns)
+    tie.close (tie.spec Inv-loop μ-loop (λ c κs. search needs) loop-holds (λ c κs. search needs) (λ c κs. search needs) (λ c κs. search needs)
+    (λ c κs. search needs) (λ c. search needs) (λ c. search needs) (λ c. search needs) (λ c. search needs) (λ c. search needs) (λ c. search needs)
+    (λ c. search needs) (λ c. search needs) loop-again same-length same-length-2 same-length-3 returns)

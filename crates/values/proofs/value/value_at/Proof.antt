@@ -8,16 +8,10 @@ use Rattle.record.specs.Bytes.{newest}
 use Rattle.values.proofs.value.value_at.Statement.{statement}
 use Rattle.values.proofs.value.value_at.Tie as tie
 
-base-value-requires : tie.Need-base-value-requires
-base-value-requires c κs = search needs
-
-value-requires : tie.Need-value-requires
-value-requires c κs = search needs
-
 returns : tie.Need-returns
 returns c =
     let a = c .before .before .before .before .before .args in
     c .value .ensures ∙ ap (λ (v : Value). value v (a .k) (a .t) (newest (a .used) (now (a .journal)))) (c .before .base-value .ensures)
 
 pub value-at-spec : {M : Type 1} → statement M
-value-at-spec = tie.close (tie.spec base-value-requires value-requires returns)
+value-at-spec = tie.close (tie.spec (λ c κs. search needs) (λ c κs. search needs) returns)

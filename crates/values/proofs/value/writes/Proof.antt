@@ -21,11 +21,8 @@ module _ (r : Record) (k : ℕ) where
 returns : tie.Need-returns
 returns c = let a = c .before .before .args in other-key (a .r) (a .k) (c .if1 .taken)
 
-is-update-requires : tie.Need-is-update-requires
-is-update-requires c κs = search needs
-
 returns-2 : tie.Need-returns-2
 returns-2 c = let a = c .before .before .before .args in c .is-update .ensures ∙ same-key (a .r) (a .k) (c .before .if1 .left)
 
 pub writes-spec : {M : Type 1} → statement M
-writes-spec = tie.close (tie.spec returns is-update-requires returns-2)
+writes-spec = tie.close (tie.spec returns (λ c κs. search needs) returns-2)

@@ -13,28 +13,13 @@ Inv-loop times used s i₀ i = (i ≤ used) × Early s times i
 abbrev μ-loop : tie.MeasureT-loop
 μ-loop times used s i₀ i = used - i
 
-pass-early-requires : tie.Need-pass-early-requires Inv-loop μ-loop
-pass-early-requires c κs = search needs
-
 loop-holds : tie.Need-loop-holds Inv-loop μ-loop
 loop-holds c = c .pass-early .ensures
-
-mul-if1 : tie.Need-mul-if1 Inv-loop μ-loop
-mul-if1 c = search needs
-
-shared-slice-read-if1 : tie.Need-shared-slice-read-if1 Inv-loop μ-loop
-shared-slice-read-if1 c = search needs
 
 returns : tie.Need-returns Inv-loop μ-loop
 returns c =
     let l = c .before .before .before .loop in
     record { within = l .inv .0; before = l .inv .1; behind = λ _. c .if1 .taken }
-
-add-i : tie.Need-add-i Inv-loop μ-loop
-add-i c = search needs
-
-loop-less : tie.Need-loop-less Inv-loop μ-loop
-loop-less c = search needs
 
 loop-again : tie.Need-loop-again Inv-loop μ-loop
 loop-again c = (omega arith, below-more _ _ (c .before .before .before .loop .inv .1) (c .if1 .left))
@@ -46,16 +31,5 @@ returns-2 c =
 
 pub first-late-spec : {M : Type 1} → statement M
 first-late-spec =
-    tie.close
-    (tie.spec
-    Inv-loop
-    μ-loop
-    pass-early-requires
-    loop-holds
-    mul-if1
-    shared-slice-read-if1
-    returns
-    add-i
-    loop-less
-    loop-again
-    returns-2)
+    tie.close (tie.spec Inv-loop μ-loop (λ c κs. search needs) loop-holds (λ c. search needs) (λ c. search needs) returns (λ c. search needs)
+    (λ c. search needs) loop-again returns-2)

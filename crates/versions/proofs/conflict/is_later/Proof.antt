@@ -32,9 +32,6 @@ loop-holds c =
     let a = b .args in
     (b .pre .0, λ others. early-none (a .k) (keyed (now (a .keys)) (now (a .times)) others) (a .s) (a .from) (b .pre .3))
 
-pass-requires : tie.Need-pass-requires Inv-loop μ-loop
-pass-requires c κs = search needs
-
 returns : tie.Need-returns Inv-loop μ-loop
 returns c others =
     let p = c .before in
@@ -42,9 +39,6 @@ returns c others =
     let a = p .before .before .before .before .args in
     let e : p .pass .result ≡ a .used = omega (arith, p .pass .ensures .within) in
     sym (rw e at (none (a .k) (a .s) (now (a .keys)) (now (a .times)) (l .i) (a .used) _ (p .pass .ensures) (l .inv .1) others))
-
-near-requires : tie.Need-near-requires Inv-loop μ-loop
-near-requires c κs = search needs
 
 is-later-among-requires : tie.Need-is-later-among-requires Inv-loop μ-loop
 is-later-among-requires c κs =
@@ -65,23 +59,10 @@ returns-2 c others =
     sym (later-among (a .s) (a .k) (g .before .near .result) (a .used) (keyed (now (a .keys)) (now (a .times)) others) (omega arith)
     (sym (g .is-later-among .ensures others) ∙ c .if2 .taken))
 
-loop-less : tie.Need-loop-less Inv-loop μ-loop
-loop-less c = search needs
-
 loop-again : tie.Need-loop-again Inv-loop μ-loop
 loop-again c = (omega arith, λ others. sym (c .before .is-later-among .ensures others) ∙ c .if2 .left)
 
 pub is-later-spec : {M : Type 1} → statement M
 is-later-spec =
-    tie.close
-    (tie.spec
-    Inv-loop
-    μ-loop
-    loop-holds
-    pass-requires
-    returns
-    near-requires
-    is-later-among-requires
-    returns-2
-    loop-less
-    loop-again)
+    tie.close (tie.spec Inv-loop μ-loop loop-holds (λ c κs. search needs) returns (λ c κs. search needs) is-later-among-requires returns-2
+    (λ c. search needs) loop-again)

@@ -18,32 +18,8 @@ abbrev μ-loop : tie.MeasureT-loop
 loop-holds : tie.Need-loop-holds Inv-loop μ-loop
 loop-holds c = (omega arith, λ j l. absurd (omega arith))
 
-sub-loop : tie.Need-sub-loop Inv-loop μ-loop
-sub-loop c = search needs
-
-add-end : tie.Need-add-end Inv-loop μ-loop
-add-end c = search needs
-
-mul-has-late : tie.Need-mul-has-late Inv-loop μ-loop
-mul-has-late c = search needs
-
-sub-has-late : tie.Need-sub-has-late Inv-loop μ-loop
-sub-has-late c = search needs
-
-part-has-late-start : tie.Need-part-has-late-start Inv-loop μ-loop
-part-has-late-start c = search needs
-
-part-has-late-end : tie.Need-part-has-late-end Inv-loop μ-loop
-part-has-late-end c = search needs
-
-has-late-requires : tie.Need-has-late-requires Inv-loop μ-loop
-has-late-requires c κs = search needs
-
 returns : tie.Need-returns Inv-loop μ-loop
 returns c = c .before .before .before .before .loop .inv
-
-loop-less : tie.Need-loop-less Inv-loop μ-loop
-loop-less c = search needs
 
 loop-again : tie.Need-loop-again Inv-loop μ-loop
 loop-again c =
@@ -57,19 +33,5 @@ returns-2 c = c .before .loop .inv
 
 pub pass-early-spec : {M : Type 1} → statement M
 pass-early-spec =
-    tie.close
-    (tie.spec
-    Inv-loop
-    μ-loop
-    loop-holds
-    sub-loop
-    add-end
-    mul-has-late
-    sub-has-late
-    part-has-late-start
-    part-has-late-end
-    has-late-requires
-    returns
-    loop-less
-    loop-again
-    returns-2)
+    tie.close (tie.spec Inv-loop μ-loop loop-holds (λ c. search needs) (λ c. search needs) (λ c. search needs) (λ c. search needs) (λ c. search needs)
+    (λ c. search needs) (λ c κs. search needs) returns (λ c. search needs) loop-again returns-2)

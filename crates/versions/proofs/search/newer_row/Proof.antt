@@ -59,24 +59,12 @@ module _ (cs : Columns) (i k t : ℕ) (best : Found) (pre : best ≡ rowOf (newe
   within : (j : ℕ) → best ≡ At j → j < i
   within j e = found-newest k t cs i (sym pre ∙ e) .row
 
-mul-if1 : tie.Need-mul-if1
-mul-if1 c = search needs
-
-shared-slice-read-if1 : tie.Need-shared-slice-read-if1
-shared-slice-read-if1 c = search needs
-
 returns : tie.Need-returns
 returns c others =
     let s = c .before .before in
     let a = s .args in
     let cs = keyed (now (a .keys)) (now (a .times)) others in
     other cs (a .i) (a .k) (a .t) (a .best) (s .pre .2 cs) (c .if1 .taken)
-
-mul-if2 : tie.Need-mul-if2
-mul-if2 c = search needs
-
-shared-slice-read-if2 : tie.Need-shared-slice-read-if2
-shared-slice-read-if2 c = search needs
 
 returns-2 : tie.Need-returns-2
 returns-2 c others =
@@ -85,9 +73,6 @@ returns-2 c others =
     let a = s .args in
     let cs = keyed (now (a .keys)) (now (a .times)) others in
     late cs (a .i) (a .k) (a .t) (a .best) (s .pre .2 cs) (e1 .if1 .left) (c .if2 .taken)
-
-enum-known-best : tie.Need-enum-known-best
-enum-known-best c = search needs
 
 mul-if3 : tie.Need-mul-if3
 mul-if3 c =
@@ -105,12 +90,6 @@ shared-slice-read-if3 c =
     let cs = keyed (now (a .keys)) (now (a .times)) noColumns in
     omega (arith, within cs (a .i) (a .k) (a .t) (a .best) (s .pre .2 cs) _ (b .best .given .1))
 
-mul-if3-2 : tie.Need-mul-if3-2
-mul-if3-2 c = search needs
-
-shared-slice-read-if3-2 : tie.Need-shared-slice-read-if3-2
-shared-slice-read-if3-2 c = search needs
-
 returns-3 : tie.Need-returns-3
 returns-3 c others =
     let b = c .before .before .before .before in
@@ -120,9 +99,6 @@ returns-3 c others =
     let a = s .args in
     let cs = keyed (now (a .keys)) (now (a .times)) others in
     newer cs (a .i) (a .k) (a .t) (a .best) (s .pre .2 cs) (e1 .if1 .left) (e2 .if2 .left) _ (b .best .given .1) (c .if3 .taken)
-
-enum-told : tie.Need-enum-told
-enum-told c = search needs
 
 returns-4 : tie.Need-returns-4
 returns-4 c others =
@@ -145,20 +121,5 @@ returns-5 c others =
 
 pub newer-row-spec : {M : Type 1} → statement M
 newer-row-spec =
-    tie.close
-    (tie.spec
-    mul-if1
-    shared-slice-read-if1
-    returns
-    mul-if2
-    shared-slice-read-if2
-    returns-2
-    enum-known-best
-    mul-if3
-    shared-slice-read-if3
-    mul-if3-2
-    shared-slice-read-if3-2
-    returns-3
-    enum-told
-    returns-4
-    returns-5)
+    tie.close (tie.spec (λ c. search needs) (λ c. search needs) returns (λ c. search needs) (λ c. search needs) returns-2 (λ c. search needs) mul-if3
+    shared-slice-read-if3 (λ c. search needs) (λ c. search needs) returns-3 (λ c. search needs) returns-4 returns-5)

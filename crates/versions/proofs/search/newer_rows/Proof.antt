@@ -21,12 +21,6 @@ loop-holds c = (omega arith, c .before .before .pre .3)
 newer-row-requires : tie.Need-newer-row-requires Inv-loop μ-loop
 newer-row-requires c κs = (omega arith, omega arith, c .before .loop .inv .1)
 
-add-i : tie.Need-add-i Inv-loop μ-loop
-add-i c = search needs
-
-loop-less : tie.Need-loop-less Inv-loop μ-loop
-loop-less c = search needs
-
 loop-again : tie.Need-loop-again Inv-loop μ-loop
 loop-again c = (omega arith, c .newer-row .ensures)
 
@@ -37,6 +31,4 @@ returns c others =
     rw e at (l .inv .1 others)
 
 pub newer-rows-spec : {M : Type 1} → statement M
-newer-rows-spec =
-    tie.close
-    (tie.spec Inv-loop μ-loop loop-holds newer-row-requires add-i loop-less loop-again returns)
+newer-rows-spec = tie.close (tie.spec Inv-loop μ-loop loop-holds newer-row-requires (λ c. search needs) (λ c. search needs) loop-again returns)

@@ -29,12 +29,6 @@ abbrev μ-loop : tie.MeasureT-loop
 loop-holds : tie.Need-loop-holds Inv-loop μ-loop
 loop-holds c = (omega arith, λ others. refl)
 
-pass-requires : tie.Need-pass-requires Inv-loop μ-loop
-pass-requires c κs = search needs
-
-near-requires : tie.Need-near-requires Inv-loop μ-loop
-near-requires c κs = search needs
-
 newer-rows-requires : tie.Need-newer-rows-requires Inv-loop μ-loop
 newer-rows-requires c κs =
     let p = c .before .before in
@@ -45,9 +39,6 @@ newer-rows-requires c κs =
       omega arith,
       stays (a .k) (a .t) (now (a .keys)) (now (a .times)) (l .i) (a .used) _ _ (p .pass .ensures) (l .inv .1),
     )
-
-loop-less : tie.Need-loop-less Inv-loop μ-loop
-loop-less c = search needs
 
 loop-again : tie.Need-loop-again Inv-loop μ-loop
 loop-again c = (omega arith, c .newer-rows .ensures)
@@ -62,14 +53,5 @@ returns c others =
 
 pub newest-row-spec : {M : Type 1} → statement M
 newest-row-spec =
-    tie.close
-    (tie.spec
-    Inv-loop
-    μ-loop
-    loop-holds
-    pass-requires
-    near-requires
-    newer-rows-requires
-    loop-less
-    loop-again
+    tie.close (tie.spec Inv-loop μ-loop loop-holds (λ c κs. search needs) (λ c κs. search needs) newer-rows-requires (λ c. search needs) loop-again
     returns)

@@ -23,9 +23,6 @@ module _ (s : State) (r : Record) where
   others : (b : Bool) → (r .kind ≡ 1 → ⊥) → b ≡ among (r .transaction) (take (s .count) (s .numbers)) → b ≡ numberedBy s r
   others b k e = rw (ne-eqb (r .kind) 1 k) e
 
-cast-if2 : tie.Need-cast-if2
-cast-if2 c = search needs
-
 returns : tie.Need-returns
 returns c =
     let t = c .before .before .before in
@@ -39,12 +36,6 @@ returns-2 c =
     let a = t .before .before .args in
     begins (a .self) (a .r) (t .if1 .taken) (e .if2 .left)
 
-slice-aggregate-is-in : tie.Need-slice-aggregate-is-in
-slice-aggregate-is-in c = search needs
-
-is-in-requires : tie.Need-is-in-requires
-is-in-requires c κs = search needs
-
 returns-3 : tie.Need-returns-3
 returns-3 c =
     let e = c .before .before .before in
@@ -52,5 +43,4 @@ returns-3 c =
     others (a .self) (a .r) _ (e .if1 .left) (c .is-in .ensures)
 
 pub numbered-spec : {M : Type 1} → statement M
-numbered-spec =
-    tie.close (tie.spec cast-if2 returns returns-2 slice-aggregate-is-in is-in-requires returns-3)
+numbered-spec = tie.close (tie.spec (λ c. search needs) returns returns-2 (λ c. search needs) (λ c κs. search needs) returns-3)

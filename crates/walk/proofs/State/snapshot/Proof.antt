@@ -32,15 +32,6 @@ module _ (s : State) (n : ℕ) (f : Found) (e : f ≡ firstRow n (take (s .count
   nowhere d snap h a =
       not-both (among n (take (s .count) (s .numbers))) a (sym (found-among 0 n (take (s .count) (s .numbers))) ∙ ap isFound (sym e ∙ d))
 
-slice-aggregate-find : tie.Need-slice-aggregate-find
-slice-aggregate-find c = search needs
-
-find-requires : tie.Need-find-requires
-find-requires c κs = search needs
-
-enum-known-j : tie.Need-enum-known-j
-enum-known-j c = search needs
-
 mul-result : tie.Need-mul-result
 mul-result c =
     let k = c .before in
@@ -54,9 +45,6 @@ array-read-result c =
     let f = k .before .before in
     let a = f .before .before .before .before .args in
     omega (arith, used (a .self) (a .n) _ (f .find .ensures) _ (k .j .given .1))
-
-enum-told : tie.Need-enum-told
-enum-told c = search needs
 
 returns : tie.Need-returns
 returns c =
@@ -73,13 +61,5 @@ returns-2 c =
 
 pub snapshot-spec : {M : Type 1} → statement M
 snapshot-spec =
-    tie.close
-    (tie.spec
-    slice-aggregate-find
-    find-requires
-    enum-known-j
-    mul-result
-    array-read-result
-    enum-told
-    returns
+    tie.close (tie.spec (λ c. search needs) (λ c κs. search needs) (λ c. search needs) mul-result array-read-result (λ c. search needs) returns
     returns-2)

@@ -29,12 +29,6 @@ module _ (s : State) (r : Record) where
 push-requires : tie.Need-push-requires
 push-requires c κs = c .before .before .pre .1 (eq-eqb _ _ (c .if1 .taken))
 
-cast-next : tie.Need-cast-next
-cast-next c = search needs
-
-add-next : tie.Need-add-next
-add-next c = search needs
-
 returns : tie.Need-returns
 returns c =
     let p = c .before in
@@ -42,17 +36,11 @@ returns c =
     let a = t .before .before .args in
     begun (a .self) (a .r) (p .push .result) (p .push .ensures) (t .if1 .taken)
 
-without-requires : tie.Need-without-requires
-without-requires c κs = search needs
-
 returns-2 : tie.Need-returns-2
 returns-2 c =
     let t = c .before in
     let a = t .before .before .before .before .args in
     committed (a .self) (a .r) (c .without .result) (c .without .ensures) (t .if2 .taken)
-
-without-requires-2 : tie.Need-without-requires-2
-without-requires-2 c κs = search needs
 
 returns-3 : tie.Need-returns-3
 returns-3 c =
@@ -69,14 +57,5 @@ returns-4 c =
 
 pub step-spec : {M : Type 1} → statement M
 step-spec =
-    tie.close
-    (tie.spec
-    push-requires
-    cast-next
-    add-next
-    returns
-    without-requires
-    returns-2
-    without-requires-2
-    returns-3
-    returns-4)
+    tie.close (tie.spec push-requires (λ c. search needs) (λ c. search needs) returns (λ c κs. search needs) returns-2 (λ c κs. search needs)
+    returns-3 returns-4)

@@ -45,17 +45,11 @@ returns-3 c =
     let a = e .before .before .args in
     first (a .n) (a .r) (a .self) (e .if1 .left) (c .before .if2 .taken) (c .if3 .left)
 
-end-requires : tie.Need-end-requires
-end-requires c κs = search needs
-
 returns-4 : tie.Need-returns-4
 returns-4 c =
     let e = c .before .before .before .before .before in
     let a = e .before .before .args in
     committed (a .n) (a .r) (a .self) (e .if1 .left) _ (c .before .if4 .taken) (c .end .ensures)
-
-end-requires-2 : tie.Need-end-requires-2
-end-requires-2 c κs = search needs
 
 returns-5 : tie.Need-returns-5
 returns-5 c =
@@ -72,14 +66,4 @@ returns-6 c =
     other (a .n) (a .r) (a .self) (e .if1 .left) (e2 .if2 .left) (e4 .if4 .left) (c .if5 .left)
 
 pub step-spec : {M : Type 1} → statement M
-step-spec =
-    tie.close
-    (tie.spec
-    returns
-    returns-2
-    returns-3
-    end-requires
-    returns-4
-    end-requires-2
-    returns-5
-    returns-6)
+step-spec = tie.close (tie.spec returns returns-2 returns-3 (λ c κs. search needs) returns-4 (λ c κs. search needs) returns-5 returns-6)
