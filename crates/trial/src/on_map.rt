@@ -55,16 +55,9 @@ fn sum(h: MapHead, keys: &[u32], times: &[u64], values: &[u32]) -> Answer {
 
 // The list at t into so many rows; or one of the rows after it, counted from 1, as a number and a value.
 fn listed(h: MapHead, keys: &[u32], times: &[u64], values: &[u32], call: Call) -> Answer {
-    let rows = call.b as usize;
-    let row = call.c as usize;
+    let rows = call.rows();
     let mut listed = [say::MARK; say::ROWS];
     let mut contents = [say::MARK; say::ROWS];
-    if rows > say::ROWS {
-        return say::alone(say::NO_CALL);
-    }
-    if row > say::ROWS {
-        return say::alone(say::NO_CALL);
-    }
     let answer = map_calls::registers_map_list(
         h,
         keys,
@@ -74,15 +67,7 @@ fn listed(h: MapHead, keys: &[u32], times: &[u64], values: &[u32], call: Call) -
         &mut listed[0..rows],
         &mut contents[0..rows],
     );
-    if row == 0 {
-        return answer;
-    }
-    let i = row - 1;
-    Answer {
-        number: listed[i],
-        present: 1,
-        value: sums::wide(contents[i]),
-    }
+    call.listed(answer, &listed, &contents)
 }
 
 // The calls that change nothing.
