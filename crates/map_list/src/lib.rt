@@ -37,35 +37,7 @@ fn write(
     Listed::Rows(count)
 }
 
-// The same of few versions, so that small columns are enough.
-fn write_few(
-    keys: &[u32],
-    times: &[u64],
-    values: &[u32],
-    used: usize,
-    t: u64,
-    out_keys: &mut [u32],
-    out_values: &mut [u32],
-) -> Listed
-    requires { do ⌜ Lent used (columns (now keys) (now times) (now values)) × (used < (← ⟦Version::FEW⟧)) × (length (now «out_keys») ≡ length (now «out_values»)) ⌝ }
-    ensures { λ r. ⌜ ListedIn (listAt (versionsOf used (columns (now (keys .entry)) (now (times .entry)) (now (values .entry)))) t) (now («out_keys» .entry)) (now («out_values» .entry)) (ofListed r) (now («out_keys» .exit)) (now («out_values» .exit)) ⌝ }
-{
-    let mut listed = [0u32; Version::FEW];
-    let mut contents = [0u32; Version::FEW];
-    write(
-        keys,
-        times,
-        values,
-        used,
-        t,
-        &mut listed,
-        &mut contents,
-        out_keys,
-        out_values,
-    )
-}
-
-// The same of any number of versions.
+// The same with columns of its own: for few versions small ones are enough.
 fn write_any(
     keys: &[u32],
     times: &[u64],
@@ -79,7 +51,19 @@ fn write_any(
     ensures { λ r. ⌜ ListedIn (listAt (versionsOf used (columns (now (keys .entry)) (now (times .entry)) (now (values .entry)))) t) (now («out_keys» .entry)) (now («out_values» .entry)) (ofListed r) (now («out_keys» .exit)) (now («out_values» .exit)) ⌝ }
 {
     if used < Version::FEW {
-        return write_few(keys, times, values, used, t, out_keys, out_values);
+        let mut listed = [0u32; Version::FEW];
+        let mut contents = [0u32; Version::FEW];
+        return write(
+            keys,
+            times,
+            values,
+            used,
+            t,
+            &mut listed,
+            &mut contents,
+            out_keys,
+            out_values,
+        );
     }
     let mut listed = [0u32; Version::ASIDE];
     let mut contents = [0u32; Version::ASIDE];
