@@ -33,7 +33,7 @@ use Rattle.history.specs.Endings as endings
 use Rattle.history.specs.Silence as silence
 use Rattle.history.specs.Corollaries as corollaries
 use Rattle.map_store.specs.Shape as shape
-use Rattle.journal_store.specs.Contracts as checkpoint
+use Rattle.journal_store.specs.Contracts as store
 
 -- DEMAND 1. Every call answers for all inputs, and by the stores' Unique in one way alone; a refused call changes nothing it was lent. The other calls
 -- of both stores are in Corollaries.
@@ -65,7 +65,7 @@ map-answers = map.map-answers
 
 pub checkpoint-answers : {room : ℕ → Type 0} {ds : List Deed} {since : ℕ} {x : Cells} → Reached room ds since x → (keys values journal : List ℕ)
     → Lent x (end x) keys values journal → (T : ℕ) (a : Reply) (head : Head) (keys' values' journal' : List ℕ)
-    → checkpoint.Checkpointed T (x .head) keys values journal a head keys' values' journal'
+    → store.Checkpointed T (x .head) keys values journal a head keys' values' journal'
     → a ≡ told (withRoom (refusalIn (Checkpointed T) (history ds)) (length (listIn (history ds .commitments) T)) (rowRoom (length keys))) Absent
 checkpoint-answers = demands.checkpoint-answers
 
@@ -137,6 +137,14 @@ pub checkpoint-is-silent : {room room' : ℕ → Type 0} {ds ds' : List Deed} {s
     → (a ≡ b) × (listed₁ ≡ listed₂) × (contents₁ ≡ contents₂)
 checkpoint-is-silent = silence.checkpoint-is-silent
 
+pub map-checkpoint-is-silent : {ds ds' : List Deed} {m m' : MapCells} → MapReached ds m → MapReached ds' m'
+    → withoutCheckpoints ds ≡ withoutCheckpoints ds' → (cs cs' : Columns) → MapLent m cs → MapLent m' cs' → (t : ℕ) → history ds .low ≤ t
+    → history ds' .low ≤ t → (listed contents : List ℕ) → length listed ≡ length contents → (a b : Reply) (listed₁ contents₁ listed₂ contents₂ : List ℕ)
+    → ListedAt t (m .head) cs listed contents a listed₁ contents₁
+    → ListedAt t (m' .head) cs' listed contents b listed₂ contents₂
+    → (a ≡ b) × (listed₁ ≡ listed₂) × (contents₁ ≡ contents₂)
+map-checkpoint-is-silent = silence.map-checkpoint-is-silent
+
 pub silent-calls : {room : ℕ → Type 0} {ds : List Deed} {since : ℕ} {x : Cells} → Reached room ds since x → Lawful (withoutCheckpoints ds)
 silent-calls = silence.silent-calls
 
@@ -148,6 +156,17 @@ pub stores-list-alike : {room : ℕ → Type 0} {ds : List Deed} {since : ℕ} {
     → ListedAt t (m .head) cs listed contents a' listed₂ contents₂
     → (a ≡ a') × (listed₁ ≡ listed₂) × (contents₁ ≡ contents₂)
 stores-list-alike = map.stores-list-alike
+
+-- It looks up and reads the same.
+pub stores-look-up-alike : {room : ℕ → Type 0} {ds : List Deed} {since : ℕ} {x : Cells} → Reached room ds since x → (keys values journal : List ℕ)
+    → Lent x (end x) keys values journal → {m : MapCells} → MapReached ds m → (cs : Columns) → MapLent m cs → (k t : ℕ)
+    → shapedReply (x .head) keys values journal (lookupDecided k t) ≡ lookupReply k t (m .head) cs
+stores-look-up-alike = map.stores-look-up-alike
+
+pub stores-read-alike : {room : ℕ → Type 0} {ds : List Deed} {since : ℕ} {x : Cells} → Reached room ds since x → (keys values journal : List ℕ)
+    → Lent x (end x) keys values journal → {m : MapCells} → MapReached ds m → (cs : Columns) → MapLent m cs → (n k : ℕ)
+    → shapedReply (x .head) keys values journal (readDecided n k) ≡ readReply n k (m .head) cs
+stores-read-alike = map.stores-read-alike
 
 -- It accepts each call that a journal store accepted, unless it has no room: what a store accepted is lawful.
 pub accepted-is-lawful : {room : ℕ → Type 0} {ds : List Deed} {since : ℕ} {x : Cells} → Reached room ds since x → Lawful ds
@@ -199,6 +218,17 @@ pub the-cut-looks-up : {room : ℕ → Type 0} {ds : List Deed} {since : ℕ} {x
     → shapedReply head keys₁ values₁ journal₁ (lookupDecided k t)
     ≡ told (lookupNumber k t (history (drop (lost x survived) ds))) (valueIn (history (drop (lost x survived) ds) .commitments) t k)
 the-cut-looks-up = restarts.the-cut-looks-up
+
+pub the-cut-lists : {room : ℕ → Type 0} {ds : List Deed} {since : ℕ} {x : Cells} → Reached room ds since x → (survived : ℕ) → Cut x since survived
+    → (keys values journal : List ℕ) → Lent x survived keys values journal → Bytes journal → (used : ℕ) (a : Reply) (head : Head) (journal' : List ℕ)
+    → Recovered (counting used (x .head)) keys values journal survived a head journal' → (keys₁ values₁ journal₁ : List ℕ)
+    → Lent (record { head = head; keys = keys; values = values; journal = journal' }) (head .journal .used * recordBytes) keys₁ values₁ journal₁ → (t : ℕ)
+    (listed contents : List ℕ) → length listed ≡ length contents → (b : Reply) (listed' contents' : List ℕ)
+    → ListedBy head keys₁ values₁ journal₁ t listed contents b listed' contents'
+    → Shows (listIn (history (drop (lost x survived) ds) .commitments) t)
+    (withRoom (timeRefused t (history (drop (lost x survived) ds)) 0) (length (listIn (history (drop (lost x survived) ds) .commitments) t)) (length listed))
+    listed contents b listed' contents'
+the-cut-lists = restarts.the-cut-lists
 
 -- RULE 3.11. With the same lent room throughout, a running transaction can always be ended by abort, and a commit never gets 12.
 pub ending-is-possible : (bytes : ℕ) {ds : List Deed} {since : ℕ} {x : Cells} → Reached (λ n. n ≡ bytes) ds since x → (keys values journal : List ℕ)
