@@ -4,6 +4,7 @@ ghost use mathlib.Core.Path.{_≡_};
 ghost use mathlib.Core.Bool.{true};
 ghost use Prim.Native.Nat.{_*_, _%_, _≤_};
 ghost use lib.ListN.{length, take, replicate};
+ghost use Rattle.rules.specs.Limits.{mostRecords};
 ghost use Rattle.rules.specs.Kinds.{recordBytes};
 ghost use Rattle.rules.specs.Lists.{among};
 ghost use Rattle.rules.specs.Checkpoints.{raise as raised, kept};
@@ -157,7 +158,7 @@ fn zero(bytes: &mut [u8], from: usize, to: usize)
 
 // Rule 3.9: the records of the transactions that run or committed after a time stay, the begins raised to it; how many they are.
 pub fn keep_running(journal: &mut [u8], used: usize, t: u64) -> usize
-    requires { ⌜ (used ≤ 2048) × (used * recordBytes ≤ length (now journal)) ⌝ }
+    requires { ⌜ (used ≤ mostRecords) × (used * recordBytes ≤ length (now journal)) ⌝ }
     ensures { λ r. ⌜ Compacted (kept t (newest used (now (journal .entry)))) (used * recordBytes) (now (journal .entry)) r (now (journal .exit)) ⌝ }
 {
     let mut running = [0u32; Journal::RECORDS];
@@ -184,7 +185,7 @@ pub fn keep_running(journal: &mut [u8], used: usize, t: u64) -> usize
 // Section 5: of the records that recovery's walk has accepted, those of the transactions with a commit stay; how many they are. Everything
 // behind them, up to a place, becomes zero. An accepted commit is later than low, and an accepted snapshot not below it.
 pub fn keep_done(journal: &mut [u8], used: usize, low: u64, end: usize) -> usize
-    requires { ⌜ (used ≤ 2048) × (used * recordBytes ≤ end) × (end ≤ length (now journal)) × (accepts low (newest used (now journal)) ≡ true) ⌝ }
+    requires { ⌜ (used ≤ mostRecords) × (used * recordBytes ≤ end) × (end ≤ length (now journal)) × (accepts low (newest used (now journal)) ≡ true) ⌝ }
     ensures { λ r. ⌜ Compacted (survivors (newest used (now (journal .entry)))) end (now (journal .entry)) r (now (journal .exit)) ⌝ }
 {
     let mut lates = [0u32; Journal::RECORDS];

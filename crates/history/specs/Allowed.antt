@@ -6,6 +6,7 @@ use native.Mathlib.Omega.{arith}
 use lib.Dec.{eqb, leb, ltb}
 use lib.ListN.{length}
 use borrow.Author.Tests.{eqb-false, leb-true, leb-false, ltb-false, not-false}
+use Rattle.rules.specs.Limits.{mostRunning, numbersEnd}
 use Rattle.rules.specs.declared.Effect.{Effect}
 use Rattle.rules.specs.Calls.{Store, lastOf, nextOf, runningOf, runsIn, heldIn, mayWriteIn, conflictIn, Begin, Update, Abort, Commit, timeRefusal, refusal, checkpointRefusal}
 use Rattle.rules.specs.Bools.{split}
@@ -23,7 +24,7 @@ refused (Checkpointed t) s = checkpointRefusal t s
 
 -- a deed that is not refused, a case for each kind
 pub data Allowed (s : Store) : Deed → Type 0 where
-  may-begin : (t : ℕ) → s .low ≤ t → t ≤ lastOf s → length (runningOf s) < 8 → nextOf s < 4294967295 → Allowed s (Did (Begin t))
+  may-begin : (t : ℕ) → s .low ≤ t → t ≤ lastOf s → length (runningOf s) < mostRunning → nextOf s < numbersEnd → Allowed s (Did (Begin t))
   may-update : (n k : ℕ) (e : Effect) → runsIn n s ≡ true → 1 ≤ k → mayWriteIn n k s ≡ true → Allowed s (Did (Update n k e))
   may-abort : (n : ℕ) → runsIn n s ≡ true → Allowed s (Did (Abort n))
   may-commit : (n t : ℕ) → runsIn n s ≡ true → lastOf s < t → conflictIn n s ≡ false → Allowed s (Did (Commit n t))
@@ -40,9 +41,9 @@ module _ (s : Store) where
   -- what is not refused is allowed
   pub allowed : (d : Deed) → refused d s ≡ 0 → Allowed s d
   allowed (Did (Begin t)) e =
-      let p = timely-at t (cond (leb 8 (length (runningOf s))) 6 (cond (leb 4294967295 (nextOf s)) 7 0)) e in
-      let u = passed (leb 8 (length (runningOf s))) 6 (cond (leb 4294967295 (nextOf s)) 7 0) (omega arith) (p .2) in
-      let v = passed (leb 4294967295 (nextOf s)) 7 0 (omega arith) (u .1) in
+      let p = timely-at t (cond (leb mostRunning (length (runningOf s))) 6 (cond (leb numbersEnd (nextOf s)) 7 0)) e in
+      let u = passed (leb mostRunning (length (runningOf s))) 6 (cond (leb numbersEnd (nextOf s)) 7 0) (omega arith) (p .2) in
+      let v = passed (leb numbersEnd (nextOf s)) 7 0 (omega arith) (u .1) in
       may-begin t (p .0) (p .1) (leb-false _ _ (u .0)) (leb-false _ _ (v .0))
   allowed (Did (Update n k f)) e =
       let p = passed (not (runsIn n s)) 2 (cond (eqb k 0) 3 (cond (not (mayWriteIn n k s)) 8 0)) (omega arith) e in

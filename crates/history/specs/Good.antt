@@ -5,6 +5,7 @@ use mathlib.Core.Bool.{true, false, false≢true}
 use mathlib.Core.List.{List, [], _∷_}
 use Prim.Native.Nat.{ℕ, _<_, _≤_}
 use lib.ListN.{length}
+use Rattle.rules.specs.Limits.{mostRunning}
 use Rattle.rules.specs.declared.Record.{Record}
 use Rattle.rules.specs.Kinds.{isBegin, isUpdate, isCommit, aborted}
 use Rattle.rules.specs.Transactions.{snapshot, runs, running, mayWrite}
@@ -18,7 +19,7 @@ pub record Opening (low : ℕ) (older : List Record) (r : Record) : Type 0 where
   pub ranged : r .transaction ≤ 4294967294
   pub from : low ≤ r .time
   pub upto : r .time ≤ last low older
-  pub few : length (running older) < 8
+  pub few : length (running older) < mostRunning
 
 -- a commit is later than last and conflicts with none
 pub record Settling (low : ℕ) (older : List Record) (r : Record) : Type 0 where

@@ -7,6 +7,7 @@ use Prim.Native.Nat.{ℕ, _≤_}
 use native.Mathlib.Omega.{arith}
 use lib.Dec.{eqb}
 use borrow.Author.Tests.{eqb-true, ne-eqb}
+use Rattle.rules.specs.Limits.{numbersEnd}
 use Rattle.rules.specs.declared.Record.{Record}
 use Rattle.rules.specs.Kinds.{isBegin, isAssign, isUpdate, isCommit, isEnd}
 use Rattle.rules.specs.Transactions.{any, of, runs, snapshot}
@@ -67,7 +68,7 @@ above-least f [] = omega arith
 above-least f (r ∷ rs) = omega (arith, above-least f rs, above-more f r rs)
 
 -- numbers in range keep it at most 4,294,967,295
-pub above-top : (f : ℕ) {low : ℕ} {rs : List Record} → f ≤ 4294967295 → Good low rs → above f rs ≤ 4294967295
+pub above-top : (f : ℕ) {low : ℕ} {rs : List Record} → f ≤ numbersEnd → Good low rs → above f rs ≤ numbersEnd
 above-top f l none = l
 above-top f l (more {r = r} g s) =
     let i = above-top f l g in

@@ -6,6 +6,7 @@ use Prim.Native.Nat.{ℕ}
 use lib.Dec.{leb}
 use lib.ListN.{length}
 use borrow.Author.Tests.{leb-true, ltb-true, le-leb, lt-ltb, not-true}
+use Rattle.rules.specs.Limits.{mostRunning}
 use Rattle.rules.specs.declared.Record.{Record}
 use Rattle.rules.specs.Kinds.{isBegin, isUpdate, isCommit}
 use Rattle.rules.specs.Transactions.{snapshot, running}
@@ -31,7 +32,7 @@ module _ (low : ℕ) (older : List Record) (r : Record) where
       (λ b. let o = s .opens b in rw (b, le-leb low (r .time) (o .from), le-leb (r .time) (last low older) (o .upto)))
       (λ b. split (isCommit r) (λ c. rw (b, c) (lt-ltb (last low older) (r .time) (s .settles c .later))) (λ c. rw (b, c))) in
       let l : limited older r ≡ true = split (isBegin r)
-      (λ b. rw b (lt-ltb (length (running older)) 8 (s .opens b .few)))
+      (λ b. rw b (lt-ltb (length (running older)) mostRunning (s .opens b .few)))
       (λ b. split (isUpdate r) (λ u. rw (b, u) (s .writes u)) (λ u. rw (b, u))) in
       let c : clear older r ≡ true = split (isCommit r) (λ c. rw (c, s .settles c .clear)) (λ c. rw c) in
       rw (s .form, n, t, l, c)
@@ -54,7 +55,7 @@ module _ (low : ℕ) (older : List Record) (r : Record) where
               ranged = leb-true _ _ (n1 .1);
               from = leb-true _ _ (t1 .0);
               upto = leb-true _ _ (t1 .1);
-              few = ltb-true (length (running older)) 8 (rw b at (l .0));
+              few = ltb-true (length (running older)) mostRunning (rw b at (l .0));
             };
         goes-on = λ b. rw b at (n .0);
         writes = λ u. rw (update-begins r u, u) at (l .0);

@@ -8,6 +8,7 @@ use native.Mathlib.Omega.{arith}
 use lib.Dec.{eqb, leb}
 use lib.ListN.{length}
 use borrow.Author.Tests.{eqb-true, eq-eqb, leb-true, leb-false, le-leb, lt-leb, lt-ltb, not-true}
+use Rattle.rules.specs.Limits.{mostRunning, numbersEnd}
 use Rattle.rules.specs.declared.Record.{Record}
 use Rattle.rules.specs.declared.Value.{Value}
 use Rattle.rules.specs.declared.Value.the-variants.{Absent, Present}
@@ -47,7 +48,7 @@ pub record Agree (m : MapStore) (low : ℕ) (all : List Record) : Type 0 where
   pub nexts : m .next ≡ above 1 all
   pub says : (n : ℕ) → Says all n (placeOf n (m .places))
   pub single : once (m .places) ≡ true
-  pub eight : length (m .places) ≡ 8
+  pub eight : length (m .places) ≡ mostRunning
   pub count : occupied (m .places) ≡ length (running all)
   pub values : (k t : ℕ) → 1 ≤ k → low ≤ t → versions.valueAt k t (m .versions) ≡ value Absent k t all
   pub touches : (s k : ℕ) → low ≤ s → later s k (m .versions) ≡ touched all s (wrote k) all
@@ -58,7 +59,7 @@ pub record Sane (low : ℕ) (all : List Record) : Type 0 where
   pub fresh : (n : ℕ) → above 1 all ≤ n → of n all ≡ []
   pub from : (n : ℕ) → runs n all ≡ true → low ≤ snapshot n all
   pub upto : (n : ℕ) → runs n all ≡ true → snapshot n all ≤ last low all
-  pub capped : above 1 all ≤ 4294967295
+  pub capped : above 1 all ≤ numbersEnd
 
 -- a transaction that did not write k leaves its value
 effects-not : (k : ℕ) (own : List Record) (v : Value) → wrote k own ≡ false → effects k own v ≡ v
@@ -140,7 +141,7 @@ module _ (m : MapStore) (low : ℕ) (all : List Record) (h : Agree m low all) (g
       go (taken n s rows) t = not-both (runs (m .next) all) (says-run t) (rw (g .fresh (m .next) (omega (arith, h .nexts))))
 
   -- begin
-  pub agree-begin : (t : ℕ) → length (running all) < 8
+  pub agree-begin : (t : ℕ) → length (running all) < mostRunning
       → Agree (record { low = m .low; last = m .last; next = m .next + 1; places = openIn (m .next) t (m .places); versions = m .versions }) low (begun (m .next) t ∷ all)
   agree-begin t few =
       let n : ℕ = m .next in

@@ -9,6 +9,7 @@ use lib.Dec.{eqb, leb}
 use lib.ListN.{length, take}
 use lib.Seq.{getD-take}
 use borrow.Author.Tests.{eqb-true, leb-true}
+use Rattle.rules.specs.Limits.{mostVersions}
 use Rattle.rules.specs.Bools.{split, and-left, and-right}
 use Rattle.rules.specs.Passed.{fitting}
 use Rattle.rules.specs.Calls.{Begin, Update, Abort, Commit}
@@ -82,7 +83,7 @@ paired : (h : MapHead) (l : Lengths) → isShaped h l ≡ true → (h .used ≤ 
 paired h l e =
     let rest = not (eqb (h .next) 0) && slotsShaped (h .slots) in
     let pairs = eqb (l .keys) (l .times) && (eqb (l .keys) (l .values) && rest) in
-    let f = and-right (leb (h .used) 4096) (leb (h .used) (l .keys) && pairs) e in
+    let f = and-right (leb (h .used) mostVersions) (leb (h .used) (l .keys) && pairs) e in
     let g = and-right (leb (h .used) (l .keys)) pairs f in (
       leb-true _ _ (and-left (leb (h .used) (l .keys)) pairs f),
       eqb-true _ _ (and-left (eqb (l .keys) (l .times)) (eqb (l .keys) (l .values) && rest) g),

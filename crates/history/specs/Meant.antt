@@ -10,6 +10,7 @@ use lib.Dec.{eqb, leb}
 use lib.ListN.{length, take, drop, take-append-drop}
 use lib.Seq.{length-take-le}
 use borrow.Author.Tests.{eqb-true, leb-true}
+use Rattle.rules.specs.Limits.{mostRecords, mostRows}
 use Rattle.rules.specs.declared.Record.{Record}
 use Rattle.rules.specs.Bools.{split, and-left, and-right}
 use Rattle.rules.specs.Kinds.{recordBytes}
@@ -83,7 +84,7 @@ paired h keys values bytes survived e =
     let b = leb (h .base .rows) (length keys) in
     let c = eqb (length keys) values in
     let rest = leb survived journalBytes && (leb survived bytes && (not (eqb (h .floor) 0) && risingKeys 0 (take (h .base .rows) keys))) in
-    let f = and-right (leb (h .base .rows) 512) (b && (c && rest)) e in
+    let f = and-right (leb (h .base .rows) mostRows) (b && (c && rest)) e in
     (leb-true _ _ (and-left b (c && rest) f), eqb-true _ _ (and-left c rest (and-right b (c && rest) f)))
 
 module _ {room : ℕ → Type 0} {ds : List Deed} {since : ℕ} {x : Cells} (m : Meant room ds since x) where
@@ -109,7 +110,7 @@ module _ {room : ℕ → Type 0} {ds : List Deed} {since : ℕ} {x : Cells} (m :
         let l = room-left (roomOf (length journal)) c s a in
         let n = length-newest (x .head .journal .used) journal in
         let k = need-some c s in
-        let i = min-le-right 2048 (length journal / recordBytes) in
+        let i = min-le-right mostRecords (length journal / recordBytes) in
         let p = push-meaning (x .head) keys values journal (recordOf c s) (fit-call c s z) (omega arith) in
         let y : courseOf ds since x ≡ record { store = s; deeds = ds; since = since } = ap (λ (t : Store). record { store = t; deeds = ds; since = since }) (sym q) in
         let ok = fitting (refusal c s) (length (s .records) + need c s) (roomOf (length journal)) a .0 in

@@ -12,6 +12,7 @@ use lib.Dec.{ltb}
 use lib.ListN.{length, take, drop, replicate}
 use lib.Seq.{length-take-le, drop-at}
 use borrow.Author.Tests.{le-leb, eq-eqb, ne-eqb}
+use Rattle.rules.specs.Limits.{mostRows}
 use Rattle.rules.specs.declared.Record.{Record}
 use Rattle.rules.specs.declared.Value.the-variants.{Absent}
 use Rattle.rules.specs.declared.Walked.the-variants.{Whole}
@@ -73,7 +74,7 @@ module _ {room : ℕ → Type 0} {ds : List Deed} {since : ℕ} {x : Cells} (r :
   can-recover =
       let s = meant r .shaped in
       rw (
-        le-leb (x .head .base .rows) 512 (s .rowsLimit),
+        le-leb (x .head .base .rows) mostRows (s .rowsLimit),
         le-leb (x .head .base .rows) (length keys) (l .rows),
         eq-eqb (length keys) (length values) (l .paired),
         le-leb survived journalBytes (omega (arith, cut .early, s .usedLimit)),

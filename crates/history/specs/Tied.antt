@@ -6,6 +6,7 @@ use mathlib.Core.List.{List, [], _∷_}
 use Prim.Native.Nat.{ℕ, zero, suc, _≤_}
 use native.Mathlib.Omega.{arith}
 use lib.ListN.{drop}
+use Rattle.rules.specs.Limits.{numbersEnd}
 use Rattle.rules.specs.declared.Record.{Record}
 use Rattle.rules.specs.declared.Value.{Value}
 use Rattle.rules.specs.declared.Value.the-variants.{Absent}
@@ -88,7 +89,7 @@ pub record Tied (y : Course) : Type 0 where
   pub within : y .store .low ≤ last (walkLow (y .store)) mark
   pub lows : whole past .low ≡ y .store .low
   pub floored : 1 ≤ y .store .floor
-  pub capped : y .store .floor ≤ 4294967295
+  pub capped : y .store .floor ≤ numbersEnd
   pub sorted : rising 0 (y .store .base) ≡ true
   pub lawful : Lawful (y .deeds)
 

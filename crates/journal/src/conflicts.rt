@@ -2,6 +2,7 @@
 ghost use mathlib.Core.Path.{_≡_};
 ghost use Prim.Native.Nat.{_*_, _≤_};
 ghost use lib.ListN.{length, take};
+ghost use Rattle.rules.specs.Limits.{mostRecords};
 ghost use Rattle.rules.specs.Kinds.{recordBytes};
 ghost use Rattle.rules.specs.Transactions.{any, of, keysWritten, mayWrite};
 ghost use Rattle.rules.specs.Conflicts.{conflict as conflictOf};
@@ -45,7 +46,7 @@ fn keys_written(journal: &[u8], used: usize, n: u32, keys: &mut [u32]) -> usize
 
 // Whether a transaction may write a key: it has written it, or fewer than 32 keys.
 pub fn may_write(journal: &[u8], used: usize, n: u32, k: u32) -> bool
-    requires { ⌜ (used ≤ 2048) × (used * recordBytes ≤ length (now journal)) ⌝ }
+    requires { ⌜ (used ≤ mostRecords) × (used * recordBytes ≤ length (now journal)) ⌝ }
     ensures { λ r. ⌜ r ≡ mayWrite n k (newest used (now (journal .entry))) ⌝ }
 {
     let mut keys = [0u32; Journal::RECORDS];
@@ -111,7 +112,7 @@ fn any_met(
 
 // Whether somebody who committed later than a time wrote a key that the transaction has written.
 fn conflict_since(journal: &[u8], used: usize, n: u32, s: u64) -> bool
-    requires { ⌜ (used ≤ 2048) × (used * recordBytes ≤ length (now journal)) ⌝ }
+    requires { ⌜ (used ≤ mostRecords) × (used * recordBytes ≤ length (now journal)) ⌝ }
     ensures { λ b. ⌜ b ≡ conflictOf n s (newest used (now (journal .entry))) ⌝ }
 {
     let mut keys = [0u32; Journal::RECORDS];
@@ -124,7 +125,7 @@ fn conflict_since(journal: &[u8], used: usize, n: u32, s: u64) -> bool
 // Whether a commit of the transaction conflicts: somebody who committed later than its snapshot wrote a key that it has written. No commit is later
 // than last, so that a snapshot at last is clear at once.
 pub fn conflict(journal: &[u8], used: usize, n: u32, snapshot: u64, last: u64) -> bool
-    requires { ⌜ (used ≤ 2048) × (used * recordBytes ≤ length (now journal)) × Past last (newest used (now journal)) ⌝ }
+    requires { ⌜ (used ≤ mostRecords) × (used * recordBytes ≤ length (now journal)) × Past last (newest used (now journal)) ⌝ }
     ensures { λ b. ⌜ b ≡ conflictOf n snapshot (newest used (now (journal .entry))) ⌝ }
 {
     if last <= snapshot {

@@ -3,6 +3,7 @@ ghost use mathlib.Core.Path.{_≡_};
 ghost use mathlib.Core.Bool.{not, _&&_};
 ghost use Prim.Native.Nat.{_-_, _*_, _≤_};
 ghost use lib.ListN.{length};
+ghost use Rattle.rules.specs.Limits.{mostRecords};
 ghost use Rattle.rules.specs.Kinds.{recordBytes};
 ghost use Rattle.rules.specs.Transactions.{of, opens, runs as runsIn, running};
 ghost use Rattle.rules.specs.Checkpoints.{heldBy, held as heldIn};
@@ -167,7 +168,7 @@ pub fn running_numbers(journal: &[u8], used: usize, numbers: &mut [u32]) -> usiz
 
 // How many transactions run.
 pub fn count_running(journal: &[u8], used: usize) -> usize
-    requires { ⌜ (used ≤ 2048) × (used * recordBytes ≤ length (now journal)) ⌝ }
+    requires { ⌜ (used ≤ mostRecords) × (used * recordBytes ≤ length (now journal)) ⌝ }
     ensures { λ r. ⌜ Counted (newest used (now (journal .entry))) used r ⌝ }
 {
     let mut numbers = [0u32; Journal::RECORDS];

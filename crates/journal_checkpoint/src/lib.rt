@@ -2,6 +2,7 @@
 ghost use mathlib.Core.Path.{_≡_};
 ghost use Prim.Native.Nat.{_≤_};
 ghost use lib.ListN.{length};
+ghost use Rattle.rules.specs.Limits.{mostRows};
 ghost use Rattle.rules.specs.declared.Value.the-variants.{Absent};
 ghost use Rattle.rules.specs.Lists.{listAt};
 ghost use Rattle.rules.specs.Columns.{firstRows};
@@ -92,7 +93,7 @@ fn settle(
     used: usize,
     t: u64,
 ) -> usize
-    requires { ⌜ Lent (now keys) (now values) rows (now journal) used × (rows ≤ 512) × (length (now keys) ≡ length (now values)) ⌝ }
+    requires { ⌜ Lent (now keys) (now values) rows (now journal) used × (rows ≤ mostRows) × (length (now keys) ≡ length (now values)) ⌝ }
     ensures { λ n. ⌜ Settled (rowRoom (length (now (keys .entry)))) (listAt (firstRows rows (now (keys .entry)) (now (values .entry))) (newest used (now (journal .entry))) t) (now (keys .entry)) (now (values .entry)) n (now (keys .exit)) (now (values .exit)) ⌝ }
 {
     if rows + used < FEW {

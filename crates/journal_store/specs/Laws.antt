@@ -18,7 +18,7 @@ use Rattle.rules.specs.declared.Value.the-variants.{Absent, Present}
 use Rattle.rules.specs.Lists.{rowKeys}
 use Rattle.rules.specs.Columns.{rowValues, Filled}
 use Rattle.rules.specs.Checkpoints.{held, kept}
-use Rattle.rules.specs.Limits.{mostRows}
+use Rattle.rules.specs.Limits.{mostRecords, mostRows}
 use Rattle.rules.specs.declared.Walked.{Walked}
 use Rattle.rules.specs.declared.Walked.the-variants.{Whole, BadAt}
 use Rattle.rules.specs.Recovery.{walk, survivors}
@@ -63,13 +63,13 @@ module _ (c : Call) (h : Head) (keys values j : List ℕ) where
     accepts = y ∙ ap (λ (r : Reply). eqb (r .number) 0) d ∙ ap (λ (n : ℕ). eqb n 0) (sym counted)
 
     -- an accepted call has room for its record
-    pub has-room : accepted ≡ true → (h .journal .used ≤ 2048) × (h .journal .used * recordBytes + recordBytes ≤ length j)
+    pub has-room : accepted ≡ true → (h .journal .used ≤ mostRecords) × (h .journal .used * recordBytes + recordBytes ≤ length j)
     has-room e =
         let z : number c h keys values j ≡ 0 = eqb-true (number c h keys values j) 0 (sym accepts ∙ e) in
         let l = room-left (roomOf (length j)) c (meaning h keys values j) (sym counted ∙ z) in
         let n = length-newest (h .journal .used) j in
         let k = need-some c (meaning h keys values j) in
-        (omega (arith, min-le-left 2048 (length j / recordBytes)), omega (arith, min-le-right 2048 (length j / recordBytes)))
+        (omega (arith, min-le-left mostRecords (length j / recordBytes)), omega (arith, min-le-right mostRecords (length j / recordBytes)))
 
     -- what was decided and put is what the call writes
     pub wrote : (r : Record) (head : Head) (exit : List ℕ) → (accepted ≡ true → r ≡ recordOf c (meaning h keys values j))

@@ -7,6 +7,7 @@ use native.Mathlib.Nat.{min-le-right, min-le-left}
 use native.Mathlib.Omega.{arith}
 use lib.ListN.{length, drop, length-append, length-drop}
 use borrow.Author.Tests.{le-leb, eq-eqb, ne-eqb}
+use Rattle.rules.specs.Limits.{mostRecords, mostRows}
 use Rattle.rules.specs.Kinds.{recordBytes}
 use Rattle.rules.specs.Passed.{fitting}
 use Rattle.rules.specs.Values.{Row}
@@ -30,10 +31,10 @@ pub shape-passes : (h : Head) (keys values bytes : ℕ) → Shaped h keys values
 shape-passes h keys values bytes w =
     let l : h .journal .used ≤ bytes / recordBytes = omega (arith, w .used) in
     rw (
-      le-leb (h .base .rows) 512 (w .rowsLimit),
+      le-leb (h .base .rows) mostRows (w .rowsLimit),
       le-leb (h .base .rows) keys (w .rows),
       eq-eqb keys values (w .paired),
-      le-leb (h .journal .used) 2048 (w .usedLimit),
+      le-leb (h .journal .used) mostRecords (w .usedLimit),
       le-leb (h .journal .used) (bytes / recordBytes) l,
       ne-eqb (h .floor) 0 (w .floored),
     )
@@ -48,8 +49,8 @@ module _ (h : Head) (keys values j : List ℕ) (w : Shaped h (length keys) (leng
       let l = room-left (roomOf (length j)) c s e in
       let n = length-newest (h .journal .used) j in
       let k = need-some c s in
-      let a = min-le-left 2048 (length j / recordBytes) in
-      let b = min-le-right 2048 (length j / recordBytes) in
+      let a = min-le-left mostRecords (length j / recordBytes) in
+      let b = min-le-right mostRecords (length j / recordBytes) in
       rw (length-appended j (h .journal .used) (recordOf c s) (omega arith))
       (record {
         rowsLimit = w .rowsLimit;
@@ -65,10 +66,10 @@ module _ (h : Head) (keys values j : List ℕ) (w : Shaped h (length keys) (leng
     abbrev rows : List Row
     rows = listOf t (meaning h keys values j)
 
-    fits : (length rows ≤ 512) × (length rows ≤ length keys)
+    fits : (length rows ≤ mostRows) × (length rows ≤ length keys)
     fits =
         let l = fitting (checkpointRefusal t (meaning h keys values j)) (length rows) (rowRoom (length keys)) e .1 in
-        (omega (arith, min-le-left 512 (length keys)), omega (arith, min-le-right 512 (length keys)))
+        (omega (arith, min-le-left mostRows (length keys)), omega (arith, min-le-right mostRows (length keys)))
 
     pub checkpoint-shaped : (nextOf (meaning h keys values j) ≡ 0 → ⊥)
         → Shaped (checkpointHead t (meaning h keys values j))
@@ -99,7 +100,7 @@ module _ (h : Head) (keys values j : List ℕ) (w : Shaped h (length keys) (leng
         })
 
 -- what recovery leaves
-pub recover-shaped : (h : Head) (keys values j : List ℕ) (survived : ℕ) → h .base .rows ≤ 512 → h .base .rows ≤ length keys → length keys ≡ length values
+pub recover-shaped : (h : Head) (keys values j : List ℕ) (survived : ℕ) → h .base .rows ≤ mostRows → h .base .rows ≤ length keys → length keys ≡ length values
     → Recoverable (length j) survived → (next (h .floor) (surviving survived j) ≡ 0 → ⊥)
     → Shaped (recoveredHead h (surviving survived j)) (length keys) (length values) (length (compacted (survivors (surviving survived j)) survived j))
 recover-shaped h keys values j survived limit rows paired w some =

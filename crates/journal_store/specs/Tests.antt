@@ -5,6 +5,7 @@ use Prim.Native.Nat.{ℕ, _+_, _<_, _≤_}
 use lib.Dec.{ltb}
 use lib.ListN.{length}
 use borrow.Author.Tests.{lt-ltb, le-ltb, le-leb, lt-leb, eq-eqb, ne-eqb}
+use Rattle.rules.specs.Limits.{mostRunning, numbersEnd}
 use Rattle.rules.specs.declared.Effect.{Effect}
 use Rattle.rules.specs.Calls.{Store, Call, Begin, Update, Abort, Commit, answer, gives, lastOf, nextOf, runningOf, runsIn, mayWriteIn, conflictIn}
 use Rattle.answer.specs.Reply.{told}
@@ -24,15 +25,15 @@ module _ (room : ℕ) (s : Store) where
       begin-future b = say (Begin t) 5 (rw (le-ltb t (s .low) a, sym e ∙ b))
 
       module _ (b : f ≡ false) (r : ℕ) (m : r ≡ length (runningOf s)) where
-        pub begin-many : 8 ≤ r → told 6 (gives (Begin t) s) ≡ decided (Begin t) room s
-        begin-many d = say (Begin t) 6 (rw (le-ltb t (s .low) a, sym e ∙ b, ← m, le-leb 8 r d))
+        pub begin-many : mostRunning ≤ r → told 6 (gives (Begin t) s) ≡ decided (Begin t) room s
+        begin-many d = say (Begin t) 6 (rw (le-ltb t (s .low) a, sym e ∙ b, ← m, le-leb mostRunning r d))
 
-        module _ (d : r < 8) (n : ℕ) (g : n ≡ nextOf s) where
-          pub begin-numbers : 4294967295 ≤ n → told 7 (gives (Begin t) s) ≡ decided (Begin t) room s
+        module _ (d : r < mostRunning) (n : ℕ) (g : n ≡ nextOf s) where
+          pub begin-numbers : numbersEnd ≤ n → told 7 (gives (Begin t) s) ≡ decided (Begin t) room s
           begin-numbers h =
-              say (Begin t) 7 (rw (le-ltb t (s .low) a, sym e ∙ b, ← m, lt-leb 8 r d, ← g, le-leb 4294967295 n h))
+              say (Begin t) 7 (rw (le-ltb t (s .low) a, sym e ∙ b, ← m, lt-leb mostRunning r d, ← g, le-leb numbersEnd n h))
 
-          module _ (h : n < 4294967295) (used : ℕ) (u : length (s .records) ≡ used) where
+          module _ (h : n < numbersEnd) (used : ℕ) (u : length (s .records) ≡ used) where
             pub begin-room : room < used + (2 + r) → told 12 (gives (Begin t) s) ≡ decided (Begin t) room s
             begin-room i =
                 say (Begin t) 12
@@ -40,9 +41,9 @@ module _ (room : ℕ) (s : Store) where
                   le-ltb t (s .low) a,
                   sym e ∙ b,
                   ← m,
-                  lt-leb 8 r d,
+                  lt-leb mostRunning r d,
                   ← g,
-                  lt-leb 4294967295 n h,
+                  lt-leb numbersEnd n h,
                   u,
                   lt-leb (used + (2 + r)) room i,
                 ))
@@ -54,9 +55,9 @@ module _ (room : ℕ) (s : Store) where
                   le-ltb t (s .low) a,
                   sym e ∙ b,
                   ← m,
-                  lt-leb 8 r d,
+                  lt-leb mostRunning r d,
                   ← g,
-                  lt-leb 4294967295 n h,
+                  lt-leb numbersEnd n h,
                   u,
                   le-leb (used + (2 + r)) room i,
                 ))

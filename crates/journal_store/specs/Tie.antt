@@ -6,6 +6,7 @@ use native.Mathlib.Nat.{min-le-right}
 use native.Mathlib.Numerals.{add-one}
 use native.Mathlib.Omega.{arith}
 use lib.ListN.{length, drop}
+use Rattle.rules.specs.Limits.{numbersEnd}
 use Rattle.rules.specs.declared.Record.{Record}
 use Rattle.rules.specs.declared.Effect.{Effect}
 use Rattle.rules.specs.declared.Effect.the-variants.{Assign, Add}
@@ -49,7 +50,7 @@ fit-call (Begin t) s z =
     record {
       kind = omega arith;
       zeros = omega arith;
-      transaction = omega (arith, min-le-right (above (s .floor) (s .records)) 4294967295);
+      transaction = omega (arith, min-le-right (above (s .floor) (s .records)) numbersEnd);
       key = omega arith;
       value = omega arith;
       time = z .time;

@@ -4,6 +4,7 @@ ghost use mathlib.Core.Path.{_≡_};
 ghost use mathlib.Core.Bool.{true};
 ghost use Prim.Native.Nat.{_+_, _*_, _≤_};
 ghost use lib.ListN.{length};
+ghost use Rattle.rules.specs.Limits.{mostRecords};
 ghost use Rattle.rules.specs.Kinds.{recordBytes};
 ghost use Rattle.journal_store.specs.Shape.{emptyHead, grown, isShaped, roomOf};
 ghost use Rattle.journal_store.specs.Contracts.{Put};
@@ -44,7 +45,7 @@ impl Head {
 
     // One record more.
     fn longer(self) -> Self
-        requires { ⌜ self .journal .used ≤ 2048 ⌝ }
+        requires { ⌜ self .journal .used ≤ mostRecords ⌝ }
         ensures { λ r. ⌜ r ≡ grown self ⌝ }
     {
         let used = self.journal.used;
@@ -107,7 +108,7 @@ fn room(bytes: usize) -> usize
 
 // The record of an accepted call goes into the unused end of the journal; a refused call changes nothing.
 fn put(h: Head, journal: &mut [u8], accepted: bool, r: Record) -> Head
-    requires { ⌜ ((accepted ≡ true) → (h .journal .used ≤ 2048) × (h .journal .used * recordBytes + recordBytes ≤ length (now journal))) ⌝ }
+    requires { ⌜ ((accepted ≡ true) → (h .journal .used ≤ mostRecords) × (h .journal .used * recordBytes + recordBytes ≤ length (now journal))) ⌝ }
     ensures { λ v. ⌜ Put h (now (journal .entry)) accepted r v (now (journal .exit)) ⌝ }
 {
     if accepted {

@@ -7,6 +7,7 @@ use native.Mathlib.Nat.{min-le-right}
 use native.Mathlib.Omega.{arith}
 use lib.Dec.{eqb}
 use lib.ListN.{length}
+use Rattle.rules.specs.Limits.{mostVersions}
 use Rattle.rules.specs.declared.Value.the-variants.{Absent}
 use Rattle.rules.specs.Calls.{Commit}
 use Rattle.answer.specs.declared.Refusal.{Refusal}
@@ -40,7 +41,7 @@ pub record Put (n t : ℕ) (h : MapHead) (cs : Columns) (accepted : Bool) (head 
 pub room-lent : (h : MapHead) (cs : Columns) → Shaped h (lengths cs) → (rows : ℕ) → h .used + rows ≤ roomOf (length (cs .keys))
     → Lent (h .used + rows) cs
 room-lent h cs w rows l =
-    let r = min-le-right 4096 (length (cs .keys)) in
+    let r = min-le-right mostVersions (length (cs .keys)) in
     record { keys = omega arith; times = omega (arith, w .times); values = omega (arith, w .values) }
 
 module _ (n t : ℕ) (h : MapHead) (cs : Columns) where

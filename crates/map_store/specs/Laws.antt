@@ -6,6 +6,7 @@ use native.Mathlib.Omega.{arith}
 use lib.Dec.{eqb}
 use lib.ListN.{length}
 use borrow.Author.Tests.{eqb-true}
+use Rattle.rules.specs.Limits.{numbersEnd}
 use Rattle.rules.specs.declared.Value.{Value}
 use Rattle.rules.specs.declared.Value.the-variants.{Absent}
 use Rattle.rules.specs.Calls.{Call, Begin}
@@ -103,6 +104,6 @@ module _ (c : Call) (h : MapHead) (cs : Columns) where
 
 -- an accepted begin has a number to give
 pub begin-next : (h : MapHead) (cs : Columns) (t : ℕ) (a : Reply) → a ≡ decided (Begin t) (roomOf (length (cs .keys))) (meaning h cs)
-    → (accepted : Bool) → accepted ≡ eqb (a .number) 0 → accepted ≡ true → h .next < 4294967295
+    → (accepted : Bool) → accepted ≡ eqb (a .number) 0 → accepted ≡ true → h .next < numbersEnd
 begin-next h cs t a d accepted y f =
     begin-numbered (meaning h cs) t (is-accepted _ _ (gives (Begin t) (meaning h cs)) refl a d accepted y f)

@@ -8,6 +8,7 @@ use native.Mathlib.Omega.{arith}
 use lib.Dec.{eqb, ltb}
 use lib.ListN.{length, drop, set, replicate, length-set, length-append, length-drop, length-replicate}
 use borrow.Author.Tests.{le-leb, eq-eqb, ne-eqb}
+use Rattle.rules.specs.Limits.{mostVersions, mostRunning, mostKeys}
 use Rattle.rules.specs.declared.Effect.{Effect}
 use Rattle.rules.specs.Effects.{orZero, applied}
 use Rattle.rules.specs.Passed.{passed}
@@ -36,7 +37,7 @@ use Rattle.map_store.specs.Tests.{abort-unknown, update-unknown, commit-
 pub shape-passes : (h : MapHead) (l : Lengths) → Shaped h l → isShaped h l ≡ true
 shape-passes h l w =
     rw (
-      le-leb (h .used) 4096 (w .limit),
+      le-leb (h .used) mostVersions (w .limit),
       le-leb (h .used) (l .keys) (w .rows),
       eq-eqb (l .keys) (l .times) (w .times),
       eq-eqb (l .keys) (l .values) (w .values),
@@ -109,7 +110,7 @@ module _ (h : MapHead) (cs : Columns) (w : Shaped h (lengths cs)) where
 
   -- a slot that is found is one of the eight
   module _ (n : ℕ) where
-    below : (i : ℕ) → slotOf (h .slots) n ≡ At i → suc i ≤ 8
+    below : (i : ℕ) → slotOf (h .slots) n ≡ At i → suc i ≤ mostRunning
     below i g = first-slot (hasNumber n) (h .slots) g .below
 
     pub abort-meaning : mapRefusal (Abort n) (meaning h cs) ≡ 0
@@ -140,7 +141,7 @@ module _ (h : MapHead) (cs : Columns) (w : Shaped h (lengths cs)) where
           (λ i g.
           let s = slotAt (h .slots) i in
           let p = place-found (h .slots) n _ refl i g in
-          let test : Bool = hasKey k (slotRows s) || ltb (length (slotRows s)) 32 in
+          let test : Bool = hasKey k (slotRows s) || ltb (length (slotRows s)) mostKeys in
           let q : _≡_ {A = ℕ} (cond (eqb k 0) 3 (cond test 0 8)) 0 = rw p at e in
           let r : test ≡ true = has-row test (passed (eqb k 0) 3 (cond test 0 8) (omega arith) q .1) in
           rw (g, p)
@@ -175,7 +176,7 @@ module _ (h : MapHead) (cs : Columns) (w : Shaped h (lengths cs)) where
           cases (slotOf (h .slots) n)
           (λ i g.
           let l = fits i g in
-          let r = min-le-right 4096 (length (cs .keys)) in
+          let r = min-le-right mostVersions (length (cs .keys)) in
           rw (g, place-found (h .slots) n _ refl i g)
           (ap₂ (λ (ps : List Place) (vers : List Version). record { low = h .low; last = t; next = h .next; places = ps; versions = vers })
           (closed-places (h .slots) n g)
@@ -188,8 +189,8 @@ module _ (h : MapHead) (cs : Columns) (w : Shaped h (lengths cs)) where
           cases (slotOf (h .slots) n)
           (λ i g.
           let l = fits i g in
-          let r = min-le-right 4096 (length (cs .keys)) in
-          let m = min-le-left 4096 (length (cs .keys)) in
+          let r = min-le-right mostVersions (length (cs .keys)) in
+          let m = min-le-left mostVersions (length (cs .keys)) in
           rw g
           (shaped-long (committedHead t (At i) h) (written-long (h .used) t (rowsIn (h .slots) (At i)) cs)
           (record {

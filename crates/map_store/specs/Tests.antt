@@ -7,6 +7,7 @@ use native.Mathlib.Omega.{arith}
 use lib.Dec.{eqb, leb, ltb}
 use lib.ListN.{length}
 use borrow.Author.Tests.{lt-ltb, le-ltb, le-leb, lt-leb, eq-eqb, ne-eqb, leb-true, leb-false, eqb-true, eqb-false, not-true, not-false}
+use Rattle.rules.specs.Limits.{mostRunning, mostKeys, numbersEnd}
 use Rattle.rules.specs.declared.Value.{Value}
 use Rattle.rules.specs.declared.Effect.{Effect}
 use Rattle.rules.specs.Bools.{split}
@@ -38,14 +39,14 @@ module _ (m : MapStore) (t : ℕ) where
 
   module _ (a : m .low ≤ t) (b : t ≤ m .last) where
     module _ (r : ℕ) (f : r ≡ occupied (m .places)) where
-      pub begin-many : 8 ≤ r → mapRefusal (Begin t) m ≡ 6
-      begin-many d = time-inside _ a b ∙ rw (← f, le-leb 8 r d)
+      pub begin-many : mostRunning ≤ r → mapRefusal (Begin t) m ≡ 6
+      begin-many d = time-inside _ a b ∙ rw (← f, le-leb mostRunning r d)
 
-      pub begin-numbers : r < 8 → 4294967295 ≤ m .next → mapRefusal (Begin t) m ≡ 7
-      begin-numbers d g = time-inside _ a b ∙ rw (← f, lt-leb 8 r d, le-leb 4294967295 (m .next) g)
+      pub begin-numbers : r < mostRunning → numbersEnd ≤ m .next → mapRefusal (Begin t) m ≡ 7
+      begin-numbers d g = time-inside _ a b ∙ rw (← f, lt-leb mostRunning r d, le-leb numbersEnd (m .next) g)
 
-      pub begin-begun : r < 8 → m .next < 4294967295 → mapRefusal (Begin t) m ≡ 0
-      begin-begun d g = time-inside _ a b ∙ rw (← f, lt-leb 8 r d, lt-leb 4294967295 (m .next) g)
+      pub begin-begun : r < mostRunning → m .next < numbersEnd → mapRefusal (Begin t) m ≡ 0
+      begin-begun d g = time-inside _ a b ∙ rw (← f, lt-leb mostRunning r d, lt-leb numbersEnd (m .next) g)
 
     module _ (x : Bool) (e : x ≡ holds t (m .places)) where
       pub checkpoint-held : x ≡ true → checkpointRefusal t m ≡ 9
@@ -64,15 +65,15 @@ module _ (m : MapStore) (t : ℕ) where
   list-future room a b = rw (time-future 0 a b)
 
   -- an accepted begin has a number to give
-  pub begin-numbered : mapRefusal (Begin t) m ≡ 0 → m .next < 4294967295
+  pub begin-numbered : mapRefusal (Begin t) m ≡ 0 → m .next < numbersEnd
   begin-numbered e =
-      let numbers : ℕ = cond (leb 4294967295 (m .next)) 7 0 in
-      let many : ℕ = cond (leb 8 (occupied (m .places))) 6 numbers in
+      let numbers : ℕ = cond (leb numbersEnd (m .next)) 7 0 in
+      let many : ℕ = cond (leb mostRunning (occupied (m .places))) 6 numbers in
       let later : ℕ = cond (ltb (m .last) t) 5 many in
       let e1 : later ≡ 0 = passed (ltb t (m .low)) 4 later (omega arith) e .1 in
       let e2 : many ≡ 0 = passed (ltb (m .last) t) 5 many (omega arith) e1 .1 in
-      let e3 : numbers ≡ 0 = passed (leb 8 (occupied (m .places))) 6 numbers (omega arith) e2 .1 in
-      leb-false 4294967295 (m .next) (passed (leb 4294967295 (m .next)) 7 0 (omega arith) e3 .0)
+      let e3 : numbers ≡ 0 = passed (leb mostRunning (occupied (m .places))) 6 numbers (omega arith) e2 .1 in
+      leb-false numbersEnd (m .next) (passed (leb numbersEnd (m .next)) 7 0 (omega arith) e3 .0)
 
   module _ (k : ℕ) where
     pub lookup-key : k ≡ 0 → lookupRefusal k t m ≡ 3
@@ -110,12 +111,12 @@ module _ (m : MapStore) (n : ℕ) where
         pub update-key : k ≡ 0 → mapRefusal (Update n k e) m ≡ 3
         update-key z = rw (p, eq-eqb k 0 z)
 
-        module _ (z : k ≡ 0 → ⊥) (b : Bool) (d : b ≡ not (hasKey k rows || ltb (length rows) 32)) where
+        module _ (z : k ≡ 0 → ⊥) (b : Bool) (d : b ≡ not (hasKey k rows || ltb (length rows) mostKeys)) where
           pub update-full : b ≡ true → mapRefusal (Update n k e) m ≡ 8
-          update-full f = rw (p, ne-eqb k 0 z, not-true (hasKey k rows || ltb (length rows) 32) (sym d ∙ f))
+          update-full f = rw (p, ne-eqb k 0 z, not-true (hasKey k rows || ltb (length rows) mostKeys) (sym d ∙ f))
 
           pub update-fits : b ≡ false → mapRefusal (Update n k e) m ≡ 0
-          update-fits f = rw (p, ne-eqb k 0 z, not-false (hasKey k rows || ltb (length rows) 32) (sym d ∙ f))
+          update-fits f = rw (p, ne-eqb k 0 z, not-false (hasKey k rows || ltb (length rows) mostKeys) (sym d ∙ f))
 
     module _ (room t : ℕ) where
       pub commit-later : t ≤ m .last → mapAnswer room (Commit n t) m ≡ 10

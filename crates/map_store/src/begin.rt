@@ -3,6 +3,7 @@ ghost use mathlib.Core.Path.{_≡_};
 ghost use mathlib.Core.Bool.{true, cond};
 ghost use Prim.Native.Nat.{_<_};
 ghost use lib.ListN.{length};
+ghost use Rattle.rules.specs.Limits.{numbersEnd};
 ghost use Rattle.rules.specs.Calls.{Begin};
 ghost use Rattle.answer.specs.Reply.{ofBegun};
 ghost use Rattle.versions.specs.Versions.{columns};
@@ -38,7 +39,7 @@ fn decide(h: MapHead, keys: &[u32], times: &[u64], values: &[u32], t: u64) -> Be
 
 // The head with the new transaction, if the call was accepted.
 fn open(h: MapHead, accepted: bool, t: u64) -> MapHead
-    requires { ⌜ (accepted ≡ true → h .next < 4294967295) ⌝ }
+    requires { ⌜ (accepted ≡ true → h .next < numbersEnd) ⌝ }
     ensures { λ r. ⌜ r ≡ cond accepted (begunHead t h) h ⌝ }
 {
     if accepted {

@@ -3,6 +3,7 @@ ghost use mathlib.Core.Path.{_≡_};
 ghost use mathlib.Core.Bool.{not, _||_};
 ghost use lib.Dec.{ltb};
 ghost use lib.ListN.{length};
+ghost use Rattle.rules.specs.Limits.{mostKeys};
 ghost use Rattle.rules.specs.Calls.{Update};
 ghost use Rattle.rules.specs.Effects.{orZero, applied};
 ghost use Rattle.answer.specs.Reply.{ofDone};
@@ -22,7 +23,7 @@ use slot::Slot;
 // Whether the transaction of a slot has no row for k and none left.
 fn is_full(s: Slot, k: u32) -> bool
     requires { ⌜ Rowed s ⌝ }
-    ensures { λ r. ⌜ r ≡ not (hasKey k (slotRows s) || ltb (length (slotRows s)) 32) ⌝ }
+    ensures { λ r. ⌜ r ≡ not (hasKey k (slotRows s) || ltb (length (slotRows s)) mostKeys) ⌝ }
 {
     match s.find(k) {
         Found::At(_) => false,

@@ -3,19 +3,19 @@ use mathlib.Core.Bool.{true}
 use mathlib.Core.Path.{_≡_}
 use Prim.Native.Nat.{ℕ, _<_, _≤_}
 use lib.ListN.{length}
+use Rattle.rules.specs.Limits.{mostRunning, mostKeys}
 use Rattle.slot.specs.declared.Slot.{Slot}
 use Rattle.slot.specs.declared.Slots.{Slots}
-use Rattle.slot.specs.Slot.{room}
 use Rattle.slot.specs.Slots.{slotAt, isOccupied}
 
 -- both arrays of a slot have all their rows, and no more are in use
 pub record Rowed (s : Slot) : Type 0 where
-  pub keys : length (s .keys) ≡ room
-  pub values : length (s .values) ≡ room
-  pub count : s .count ≤ room
+  pub keys : length (s .keys) ≡ mostKeys
+  pub values : length (s .values) ≡ mostKeys
+  pub count : s .count ≤ mostKeys
 
 -- the number of the occupied slots is a byte, there are eight slots, and the rows of the occupied ones are in order
 pub record Formed (h : Slots) : Type 0 where
   pub byte : h .occupied < 256
-  pub eight : length (h .slots) ≡ 8
+  pub eight : length (h .slots) ≡ mostRunning
   pub rowed : (i : ℕ) → isOccupied h i ≡ true → Rowed (slotAt h i)

@@ -5,6 +5,7 @@ use mathlib.Core.Path.{_≡_}
 use Prim.Native.Nat.{ℕ, zero, suc, _+_, _<_, _≤_}
 use native.Mathlib.Nat.{eq-or-lt-of-le}
 use native.Mathlib.Omega.{arith}
+use Rattle.rules.specs.Limits.{mostRunning}
 use Rattle.rules.specs.Bools.{split, and-left, and-right}
 use Rattle.column.specs.declared.Found.the-variants.{At}
 use Rattle.slot.specs.declared.Slot.{Slot}
@@ -55,6 +56,6 @@ module _ (p : Slot → Bool) (h : Slots) where
       })
 
   -- the slot found is the lowest of the eight
-  pub first-slot : {r : ℕ} → firstSlot p h ≡ At r → Lowest 0 8 r
+  pub first-slot : {r : ℕ} → firstSlot p h ≡ At r → Lowest 0 mostRunning r
   unfolding firstSlot
-  first-slot {r} e = first-from 8 0 r e
+  first-slot {r} e = first-from mostRunning 0 r e

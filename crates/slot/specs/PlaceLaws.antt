@@ -11,13 +11,14 @@ use lib.Arith.{lt-one}
 use lib.Dec.{ltb}
 use lib.ListN.{length}
 use lib.Seq.{getD-set-same, getD-set-other}
+use Rattle.rules.specs.Limits.{mostRunning, mostKeys}
 use Rattle.rules.specs.Bools.{split}
 use Rattle.column.specs.declared.Found.the-variants.{At}
 use Rattle.slot.specs.declared.Slot.{Slot}
 use Rattle.slot.specs.declared.Slots.{Slots}
 use Rattle.slot.specs.Bits.{bit, zeroFrom}
 use Rattle.slot.specs.BitLaws.{half, bit-same, bit-other, zero-from}
-use Rattle.slot.specs.Slot.{room, openedSlot, emptySlot, noted}
+use Rattle.slot.specs.Slot.{openedSlot, emptySlot, noted}
 use Rattle.slot.specs.Slots.{emptySlots, noSlot, slotAt, isOccupied, lowestFree, firstFrom, firstSlot, met, hasNumber, isBelow, slotOf, slotsHold, replaced, openedIn, notedIn, closedIn}
 use Rattle.slot.specs.Formed.{Formed}
 use Rattle.slot.specs.Laws.{first-from, first-slot}
@@ -33,9 +34,9 @@ length-from : (h : Slots) (i c : ℕ) → length (placesFrom h i c) ≡ c
 length-from h i zero = refl
 length-from h i (suc c) = ap suc (length-from h (i + 1) c)
 
-pub length-places : (h : Slots) → length (placesOf h) ≡ 8
+pub length-places : (h : Slots) → length (placesOf h) ≡ mostRunning
 unfolding placesOf
-length-places h = length-from h 0 8
+length-places h = length-from h 0 mostRunning
 
 -- the place of a transaction
 place-from : (h : Slots) (n i c : ℕ) → placeOf n (placesFrom h i c) ≡ placeIn h (firstFrom (hasNumber n) h i c)
@@ -47,7 +48,7 @@ place-from h n i (suc c) =
 
 pub place-slot : (h : Slots) (n : ℕ) → placeOf n (placesOf h) ≡ placeIn h (slotOf h n)
 unfolding placesOf firstSlot
-place-slot h n = place-from h n 0 8
+place-slot h n = place-from h n 0 mostRunning
 
 -- a time above a running snapshot
 holds-from : (h : Slots) (t i c : ℕ) → holds t (placesFrom h i c) ≡ met (firstFrom (isBelow t) h i c)
@@ -59,7 +60,7 @@ holds-from h t i (suc c) =
 
 pub holds-slots : (h : Slots) (t : ℕ) → holds t (placesOf h) ≡ slotsHold h t
 unfolding placesOf firstSlot
-holds-slots h t = holds-from h t 0 8
+holds-slots h t = holds-from h t 0 mostRunning
 
 -- how many run: m has the c bits of the occupied slots from i on
 ones-from : (h : Slots) (c i m : ℕ) → m < 2 ^ c → ((j : ℕ) → isOccupied h (i + j) ≡ bit m j) → occupied (placesFrom h i c) ≡ ones m
@@ -77,7 +78,7 @@ ones-from h (suc c) i m l e =
 
 pub occupied-places : (h : Slots) → h .occupied < 256 → occupied (placesOf h) ≡ ones (h .occupied)
 unfolding placesOf
-occupied-places h l = ones-from h 8 0 (h .occupied) l (λ j. rw zero-add)
+occupied-places h l = ones-from h mostRunning 0 (h .occupied) l (λ j. rw zero-add)
 
 -- places are known one by one
 same-from : (h h' : Slots) (i c : ℕ) → ((j : ℕ) → i ≤ j → placeAt h' j ≡ placeAt h j) → placesFrom h' i c ≡ placesFrom h i c
@@ -136,19 +137,19 @@ module _ (h : Slots) (i b : ℕ) (s : Slot) (k : b < 2) where
   others j d = rw (bit-other i j (h .occupied) b k d, getD-set-other (h .slots) i j s noSlot d)
 
 -- a new transaction goes into the lowest free place
-pub opened-places : (h : Slots) (n s : ℕ) → length (h .slots) ≡ 8 → placesOf (openedIn h n s) ≡ openIn n s (placesOf h)
+pub opened-places : (h : Slots) (n s : ℕ) → length (h .slots) ≡ mostRunning → placesOf (openedIn h n s) ≡ openIn n s (placesOf h)
 unfolding placesOf lowestFree
 opened-places h n s l =
     let r = lowestFree h in
-    split (ltb r 8)
+    split (ltb r mostRunning)
     (λ t.
-    let m = ltb-true r 8 t in
+    let m = ltb-true r mostRunning t in
     rw t
     (open-from h (replaced h r 1 (openedSlot n s)) r (taken n s [])
     (rw (bit-same r (h .occupied) 1 (omega arith), getD-set-same (h .slots) r (openedSlot n s) noSlot (omega arith)))
     (others h r 1 (openedSlot n s) (omega arith))
-    n s 0 8 refl refl m))
-    (λ t. let m = ltb-false r 8 t in let w = zero-from (h .occupied) 0 8 in rw t (full-from h n s 0 8 (omega arith)))
+    n s 0 mostRunning refl refl m))
+    (λ t. let m = ltb-false r mostRunning t in let w = zero-from (h .occupied) 0 mostRunning in rw t (full-from h n s 0 mostRunning (omega arith)))
 
 module _ (h : Slots) (n : ℕ) {i : ℕ} (e : slotOf h n ≡ At i) where
   -- the place of a transaction that ends is free
@@ -158,10 +159,10 @@ module _ (h : Slots) (n : ℕ) {i : ℕ} (e : slotOf h n ≡ At i) where
       amend-from h (closedIn h i) i free
       (rw (bit-same i (h .occupied) 0 (omega arith)))
       (others h i 0 emptySlot (omega arith))
-      n 0 8 e
+      n 0 mostRunning e
 
   -- a write noted in its slot is noted in its rows, where there is room
-  pub noted-places : Formed h → (k v : ℕ) → (hasKey k (slotRows (slotAt h i)) || ltb (slotAt h i .count) room) ≡ true
+  pub noted-places : Formed h → (k v : ℕ) → (hasKey k (slotRows (slotAt h i)) || ltb (slotAt h i .count) mostKeys) ≡ true
       → placesOf (notedIn h i k v) ≡ amend n (taken (slotAt h i .number) (slotAt h i .snapshot) (note k v (slotRows (slotAt h i)))) (placesOf h)
   unfolding placesOf firstSlot
   noted-places w k v f =
@@ -169,4 +170,4 @@ module _ (h : Slots) (n : ℕ) {i : ℕ} (e : slotOf h n ≡ At i) where
       amend-from h (notedIn h i k v) i (taken (slotAt h i .number) (slotAt h i .snapshot) (note k v (slotRows (slotAt h i))))
       (rw (o .occupied, getD-set-same (h .slots) i (noted (slotAt h i) k v) noSlot (omega (arith, o .below, w .eight))) (noted-place (slotAt h i) (w .rowed i (o .occupied)) k v f))
       (λ j d. rw (getD-set-other (h .slots) i j (noted (slotAt h i) k v) noSlot d))
-      n 0 8 e
+      n 0 mostRunning e

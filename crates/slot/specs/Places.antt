@@ -4,6 +4,7 @@ use mathlib.Core.List.{List, [], _∷_}
 use Prim.Native.Nat.{ℕ, zero, suc, _+_}
 use lib.Dec.{eqb, ltb}
 use lib.ListN.{getD}
+use Rattle.rules.specs.Limits.{mostRunning}
 use Rattle.rules.specs.declared.Value.{Value}
 use Rattle.rules.specs.declared.Value.the-variants.{Absent, Present}
 use Rattle.column.specs.declared.Found.{Found}
@@ -116,4 +117,4 @@ placesFrom h i (suc c) = placeAt h i ∷ placesFrom h (i + 1) c
 
 -- what the eight slots mean, slot 0 first
 unfoldable pub placesOf : Slots → List Place
-placesOf h = placesFrom h 0 8
+placesOf h = placesFrom h 0 mostRunning

@@ -11,13 +11,14 @@ use borrow.Author.Tests.{eq-eqb, ne-eqb, ltb-true}
 use lib.Dec.{eqb, ltb}
 use lib.ListN.{length, getD, set, take, length-set}
 use lib.Seq.{getD-set-same, getD-set-other, getD-take, length-take-le}
+use Rattle.rules.specs.Limits.{mostKeys}
 use Rattle.rules.specs.declared.Value.the-variants.{Absent, Present}
 use Rattle.rules.specs.Bools.{split, or-right}
 use Rattle.column.specs.declared.Found.{Found}
 use Rattle.column.specs.declared.Found.the-variants.{At, Nothing}
 use Rattle.column.specs.Laws.{first-at, absent-nothing}
 use Rattle.slot.specs.declared.Slot.{Slot}
-use Rattle.slot.specs.Slot.{room, rowOf, noted}
+use Rattle.slot.specs.Slot.{rowOf, noted}
 use Rattle.slot.specs.Slots.{met}
 use Rattle.slot.specs.Formed.{Rowed}
 use Rattle.slot.specs.Places.{Note, taken, noteKeys, hasKey, runningValue, reset, note, rowsOf, slotRows, valueIn, takenBy}
@@ -132,7 +133,7 @@ module _ (s : Slot) (w : Rowed s) (k : ℕ) where
       (λ e. rw e (value-none (s .keys) (s .values) k (s .count) (row-absent e)))
 
   -- a write noted in a slot that has room for it is noted in its rows, and nothing else changes
-  pub noted-place : (v : ℕ) → (hasKey k (slotRows s) || ltb (s .count) room) ≡ true
+  pub noted-place : (v : ℕ) → (hasKey k (slotRows s) || ltb (s .count) mostKeys) ≡ true
       → takenBy (noted s k v) ≡ taken (s .number) (s .snapshot) (note k v (slotRows s))
   noted-place v h =
       cases (rowOf s k)
@@ -145,8 +146,8 @@ module _ (s : Slot) (w : Rowed s) (k : ℕ) where
       ))
       (λ e.
       let n = has-none (s .keys) (s .values) k (s .count) (row-absent e) in
-      let t : ltb (s .count) room ≡ true = rw n at h in
-      let l = ltb-true (s .count) room t in
+      let t : ltb (s .count) mostKeys ≡ true = rw n at h in
+      let l = ltb-true (s .count) mostKeys t in
       let same = rows-same (s .keys) (s .values) (set (s .keys) (s .count) k) (set (s .values) (s .count) v) (s .count)
       (λ j m. getD-set-other (s .keys) (s .count) j k 0 (λ q. omega arith))
       (λ j m. getD-set-other (s .values) (s .count) j v 0 (λ q. omega arith)) in
@@ -166,6 +167,6 @@ module _ (s : Slot) (w : Rowed s) (k : ℕ) where
       cases (rowOf s k)
       (λ i e. rw e (record { keys = w .keys; values = rw length-set (w .values); count = w .count }))
       (λ e.
-      split (ltb (s .count) room)
-      (λ t. rw (e, t) (record { keys = rw length-set (w .keys); values = rw length-set (w .values); count = omega (arith, ltb-true (s .count) room t) }))
+      split (ltb (s .count) mostKeys)
+      (λ t. rw (e, t) (record { keys = rw length-set (w .keys); values = rw length-set (w .values); count = omega (arith, ltb-true (s .count) mostKeys t) }))
       (λ t. rw (e, t) w))

@@ -3,18 +3,15 @@ use mathlib.Core.Bool.{cond}
 use Prim.Native.Nat.{ℕ, _+_}
 use lib.Dec.{ltb}
 use lib.ListN.{take, set, replicate}
+use Rattle.rules.specs.Limits.{mostKeys}
 use Rattle.column.specs.declared.Found.{Found}
 use Rattle.column.specs.declared.Found.the-variants.{At, Nothing}
 use Rattle.column.specs.Column.{firstRow}
 use Rattle.slot.specs.declared.Slot.{Slot}
 
--- how many rows a slot has
-abbrev pub room : ℕ
-room = 32
-
 -- a new slot is all zero but for number and snapshot
 abbrev pub openedSlot : ℕ → ℕ → Slot
-openedSlot n s = record { number = n; snapshot = s; count = 0; keys = replicate room 0; values = replicate room 0 }
+openedSlot n s = record { number = n; snapshot = s; count = 0; keys = replicate mostKeys 0; values = replicate mostKeys 0 }
 
 -- a freed slot is all zero
 abbrev pub emptySlot : Slot
@@ -42,7 +39,7 @@ extended s k v =
 -- the running value goes into the row that was found, or into a new one if there is room
 abbrev pub notedAt : Found → Slot → ℕ → ℕ → Slot
 notedAt (At i) s k v = revalued s i v
-notedAt Nothing s k v = cond (ltb (s .count) room) (extended s k v) s
+notedAt Nothing s k v = cond (ltb (s .count) mostKeys) (extended s k v) s
 
 -- a write noted: the running value v of key k
 abbrev pub noted : Slot → ℕ → ℕ → Slot

@@ -4,16 +4,17 @@ use mathlib.Core.List.{[]}
 use Prim.Native.Nat.{ℕ, zero, suc, _+_}
 use lib.Dec.{eqb, ltb}
 use lib.ListN.{getD, set, replicate}
+use Rattle.rules.specs.Limits.{mostRunning, mostKeys}
 use Rattle.column.specs.declared.Found.{Found}
 use Rattle.column.specs.declared.Found.the-variants.{At, Nothing}
 use Rattle.slot.specs.declared.Slot.{Slot}
 use Rattle.slot.specs.declared.Slots.{Slots}
 use Rattle.slot.specs.Bits.{bit, withBit, zeroFrom}
-use Rattle.slot.specs.Slot.{room, openedSlot, emptySlot, noted}
+use Rattle.slot.specs.Slot.{openedSlot, emptySlot, noted}
 
 -- all slots free
 abbrev pub emptySlots : Slots
-emptySlots = record { occupied = 0; slots = replicate 8 emptySlot }
+emptySlots = record { occupied = 0; slots = replicate mostRunning emptySlot }
 
 -- what stands for a slot past the eighth
 abbrev pub noSlot : Slot
@@ -29,7 +30,7 @@ isOccupied h i = bit (h .occupied) i
 
 -- the lowest-numbered free slot, 8 where none is free
 unfoldable pub lowestFree : Slots → ℕ
-lowestFree h = zeroFrom (h .occupied) 0 8
+lowestFree h = zeroFrom (h .occupied) 0 mostRunning
 
 -- of c slots from i on the lowest occupied one that meets a test
 abbrev pub firstFrom : (Slot → Bool) → Slots → ℕ → ℕ → Found
@@ -38,7 +39,7 @@ firstFrom p h i (suc c) = cond (isOccupied h i && p (slotAt h i)) (At i) (firstF
 
 -- the lowest occupied slot that meets a test
 unfoldable pub firstSlot : (Slot → Bool) → Slots → Found
-firstSlot p h = firstFrom p h 0 8
+firstSlot p h = firstFrom p h 0 mostRunning
 
 -- something was found
 abbrev pub met : Found → Bool
@@ -55,7 +56,7 @@ isBelow t s = ltb (s .snapshot) t
 
 -- a slot has more keys than it has rows
 abbrev pub isOverfull : Slot → Bool
-isOverfull s = ltb room (s .count)
+isOverfull s = ltb mostKeys (s .count)
 
 -- of several occupied slots with one number the lowest
 abbrev pub slotOf : Slots → ℕ → Found
@@ -75,7 +76,7 @@ replaced h i b s = record { occupied = withBit (h .occupied) i b; slots = set (h
 
 -- a new transaction goes into the lowest-numbered free slot; nothing changes where none is free
 abbrev pub openedIn : Slots → ℕ → ℕ → Slots
-openedIn h n s = cond (ltb (lowestFree h) 8) (replaced h (lowestFree h) 1 (openedSlot n s)) h
+openedIn h n s = cond (ltb (lowestFree h) mostRunning) (replaced h (lowestFree h) 1 (openedSlot n s)) h
 
 -- a write noted in slot i
 abbrev pub notedIn : Slots → ℕ → ℕ → ℕ → Slots

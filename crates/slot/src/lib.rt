@@ -3,6 +3,7 @@ ghost use mathlib.Core.Bool.{true};
 ghost use mathlib.Core.Path.{_≡_};
 ghost use Prim.Native.Nat.{ℕ, _<_};
 ghost use lib.Count.{ones};
+ghost use Rattle.rules.specs.Limits.{mostRunning, mostKeys};
 ghost use Rattle.slot.specs.Slot.{emptySlot, openedSlot, rowOf};
 ghost use Rattle.slot.specs.Slot.{noted as notedSlot};
 ghost use Rattle.slot.specs.Slots.{emptySlots, slotAt, isOccupied, lowestFree, slotOf, slotsShaped, slotsHold, openedIn, notedIn, closedIn};
@@ -61,7 +62,7 @@ impl Slot {
     // The row of a key: the first below the count that has it, one of the 32 whatever the count.
     pub fn find(self, key: u32) -> Found
         ensures { λ r. ⌜ r ≡ rowOf self key ⌝ }
-        ensures { λ r. ⌜ ((i : ℕ) → r ≡ Found.At i → i < 32) ⌝ }
+        ensures { λ r. ⌜ ((i : ℕ) → r ≡ Found.At i → i < mostKeys) ⌝ }
     {
         let keys = self.keys;
         column::find(&keys, self.count, key)
@@ -138,7 +139,7 @@ impl Slots {
 
     // The slot at an index.
     pub fn at(self, index: usize) -> Slot
-        requires { ⌜ index < 8 ⌝ }
+        requires { ⌜ index < mostRunning ⌝ }
         ensures { λ r. ⌜ r ≡ slotAt self index ⌝ }
     {
         self.slots[index]
@@ -147,7 +148,7 @@ impl Slots {
     // The lowest occupied slot with the number, one of the eight.
     pub fn find(self, number: u32) -> Found
         ensures { λ r. ⌜ r ≡ slotOf self number ⌝ }
-        ensures { λ r. ⌜ ((i : ℕ) → r ≡ Found.At i → i < 8) ⌝ }
+        ensures { λ r. ⌜ ((i : ℕ) → r ≡ Found.At i → i < mostRunning) ⌝ }
     {
         let mut i = 0;
         while i < Slots::SLOTS {
@@ -178,7 +179,7 @@ impl Slots {
 
     // A write noted in slot i.
     pub fn noted(mut self, i: usize, key: u32, value: u32) -> Self
-        requires { ⌜ i < 8 ⌝ }
+        requires { ⌜ i < mostRunning ⌝ }
         ensures { λ r. ⌜ r ≡ notedIn self i key value ⌝ }
     {
         let s = self.slots[i];
@@ -188,7 +189,7 @@ impl Slots {
 
     // Slot i freed: all zero, its bit too.
     pub fn closed(mut self, i: usize) -> Self
-        requires { ⌜ i < 8 ⌝ }
+        requires { ⌜ i < mostRunning ⌝ }
         ensures { λ r. ⌜ r ≡ closedIn self i ⌝ }
     {
         let s = self.slots[i];

@@ -10,6 +10,7 @@ use lib.Dec.{eqb, leb, ltb}
 use lib.ListN.{length, take, getD, set, length-set}
 use lib.Seq.{take-suc, getD-set-same, getD-set-other}
 use borrow.Author.Tests.{eqb-true, eq-eqb, ne-eqb, leb-true, ltb-true, ltb-false}
+use Rattle.rules.specs.Limits.{mostRunning}
 use Rattle.rules.specs.declared.Record.{Record}
 use Rattle.rules.specs.Bools.{split, and-left, and-false, or-left, or-right}
 use Rattle.rules.specs.Kinds.{isBegin, isCommit, isEnd}
@@ -50,7 +51,7 @@ row-among j (suc n) xs h =
     or-left (eqb (getD xs n 0) (getD xs j 0)) (among (getD xs j 0) (latest n xs)) (eq-eqb _ _ (ap (λ (i : ℕ). getD xs i 0) e)))
 
 -- one row more
-module _ (s : State) (n t : ℕ) (room : Room s) (l : s .count < 8) where
+module _ (s : State) (n t : ℕ) (room : Room s) (l : s .count < mostRunning) where
   pub push-room : Room (pushed s n t)
   push-room = record { numbers = simp length-set (room .numbers); snapshots = simp length-set (room .snapshots) }
 
@@ -121,10 +122,10 @@ module _ (low : ℕ) (rs : List Record) (r : Record) (s : State) (h : Tracks low
 -- one accepted record more
 module _ (low : ℕ) (rs : List Record) (r : Record) (s : State) (h : Tracks low rs s) (j : judge low rs r ≡ true) where
   -- a begin finds a free row
-  pub begin-room : isBegin r ≡ true → s .count < 8
+  pub begin-room : isBegin r ≡ true → s .count < mostRunning
   begin-room b =
-      let l : ltb (length (running rs)) 8 ≡ true = rw b at (judged low rs r j .limited) in
-      omega (arith, rows-count rs s (h .opened), ltb-true (length (running rs)) 8 l)
+      let l : ltb (length (running rs)) mostRunning ≡ true = rw b at (judged low rs r j .limited) in
+      omega (arith, rows-count rs s (h .opened), ltb-true (length (running rs)) mostRunning l)
 
   module _ (k : r .kind ≡ 1) where
     exceeds : above 1 rs ≤ r .transaction

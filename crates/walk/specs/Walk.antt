@@ -5,6 +5,7 @@ use mathlib.Core.List.{List, [], _∷_}
 use Prim.Native.Nat.{ℕ, zero, suc, _+_, _≤_, _<_}
 use lib.Dec.{eqb, leb, ltb}
 use lib.ListN.{length, take, getD, set, replicate}
+use Rattle.rules.specs.Limits.{mostRunning}
 use Rattle.rules.specs.declared.Record.{Record}
 use Rattle.rules.specs.Kinds.{isBegin, isCommit}
 use Rattle.rules.specs.Lists.{among}
@@ -16,7 +17,7 @@ use Rattle.walk.specs.declared.State.{State}
 
 -- nothing is passed
 abbrev pub started : ℕ → State
-started low = record { last = low; above = 1; count = 0; numbers = replicate 8 0; snapshots = replicate 8 0 }
+started low = record { last = low; above = 1; count = 0; numbers = replicate mostRunning 0; snapshots = replicate mostRunning 0 }
 
 -- one transaction more runs
 abbrev pub pushed : State → ℕ → ℕ → State
@@ -44,8 +45,8 @@ Held snap s = HeldTo (s .count) snap s
 
 -- both columns have eight rows
 pub record Room (s : State) : Type 0 where
-  pub numbers : length (s .numbers) ≡ 8
-  pub snapshots : length (s .snapshots) ≡ 8
+  pub numbers : length (s .numbers) ≡ mostRunning
+  pub snapshots : length (s .snapshots) ≡ mostRunning
 
 -- v has the first i rows of s, without those of n
 pub record Without (s : State) (n i : ℕ) (v : State) : Type 0 where
@@ -58,7 +59,7 @@ pub record Without (s : State) (n i : ℕ) (v : State) : Type 0 where
 
 -- the used rows are the running transactions with their snapshots
 pub record Open (rs : List Record) (s : State) : Type 0 where
-  pub few : s .count ≤ 8
+  pub few : s .count ≤ mostRunning
   pub room : Room s
   pub rows : latest (s .count) (s .numbers) ≡ running rs
   pub held : Held (λ m. snapshot m rs) s

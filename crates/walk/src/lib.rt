@@ -3,6 +3,7 @@ ghost use mathlib.Core.Path.{_≡_};
 ghost use mathlib.Core.Bool.{true};
 ghost use Prim.Native.Nat.{_*_, _<_, _≤_};
 ghost use lib.ListN.{length};
+ghost use Rattle.rules.specs.Limits.{mostRecords, mostRunning};
 ghost use Rattle.rules.specs.Kinds.{recordBytes, isBegin, isCommit};
 ghost use Rattle.rules.specs.Transactions.{runs};
 ghost use Rattle.rules.specs.Recovery.{formed as formedIn, limited as limitedIn, clear as clearIn, judge as judgeIn, walk as walkIn};
@@ -44,7 +45,7 @@ impl State {
 
     // One transaction more runs.
     fn push(mut self, n: u32, snapshot: u64) -> State
-        requires { ⌜ self .count < 8 ⌝ }
+        requires { ⌜ self .count < mostRunning ⌝ }
         ensures { λ v. ⌜ v ≡ pushed self n snapshot ⌝ }
     {
         let at = self.count;
@@ -56,7 +57,7 @@ impl State {
 
     // The running transactions but one.
     fn without(self, n: u32) -> State
-        requires { ⌜ self .count ≤ 8 ⌝ }
+        requires { ⌜ self .count ≤ mostRunning ⌝ }
         ensures { λ v. ⌜ Without self n (self .count) v ⌝ }
     {
         let mut rest = State::start(self.last);
@@ -75,7 +76,7 @@ impl State {
 
     // One record more, which is accepted.
     fn step(self, r: Record) -> State
-        requires { ⌜ (self .count ≤ 8) × (isBegin r ≡ true → self .count < 8) ⌝ }
+        requires { ⌜ (self .count ≤ mostRunning) × (isBegin r ≡ true → self .count < mostRunning) ⌝ }
         ensures { λ v. ⌜ Stepped self r v ⌝ }
     {
         if r.kind == Record::BEGIN {
@@ -96,7 +97,7 @@ impl State {
 
     // The snapshot of a running transaction.
     fn snapshot(self, n: u32) -> u64
-        requires { ⌜ self .count ≤ 8 ⌝ }
+        requires { ⌜ self .count ≤ mostRunning ⌝ }
         ensures { λ v. ⌜ SnapshotOf self n v ⌝ }
     {
         let numbers = self.numbers;
@@ -180,7 +181,7 @@ fn formed(r: Record) -> bool
 
 // Whether at most 8 transactions run, and at most 32 keys are written in each.
 fn limited(journal: &[u8], i: usize, r: Record, s: State) -> bool
-    requires { ⌜ (i ≤ 2048) × (i * recordBytes ≤ length (now journal)) × Open (newest i (now journal)) s ⌝ }
+    requires { ⌜ (i ≤ mostRecords) × (i * recordBytes ≤ length (now journal)) × Open (newest i (now journal)) s ⌝ }
     ensures { λ b. ⌜ b ≡ limitedIn (newest i (now (journal .entry))) r ⌝ }
 {
     if r.kind == Record::BEGIN {
@@ -194,7 +195,7 @@ fn limited(journal: &[u8], i: usize, r: Record, s: State) -> bool
 
 // Whether a commit does not conflict.
 fn clear(journal: &[u8], i: usize, r: Record, s: State) -> bool
-    requires { ⌜ (i ≤ 2048) × (i * recordBytes ≤ length (now journal)) × Open (newest i (now journal)) s × Past (s .last) (newest i (now journal)) × (isCommit r ≡ true → runs (r .transaction) (newest i (now journal)) ≡ true) ⌝ }
+    requires { ⌜ (i ≤ mostRecords) × (i * recordBytes ≤ length (now journal)) × Open (newest i (now journal)) s × Past (s .last) (newest i (now journal)) × (isCommit r ≡ true → runs (r .transaction) (newest i (now journal)) ≡ true) ⌝ }
     ensures { λ b. ⌜ b ≡ clearIn (newest i (now (journal .entry))) r ⌝ }
 {
     if r.kind != Record::COMMIT {
@@ -206,7 +207,7 @@ fn clear(journal: &[u8], i: usize, r: Record, s: State) -> bool
 
 // Whether an accepted call would write a record behind the first i.
 fn judge(journal: &[u8], i: usize, low: u64, r: Record, s: State) -> bool
-    requires { ⌜ (i ≤ 2048) × (i * recordBytes ≤ length (now journal)) × Tracks low (newest i (now journal)) s ⌝ }
+    requires { ⌜ (i ≤ mostRecords) × (i * recordBytes ≤ length (now journal)) × Tracks low (newest i (now journal)) s ⌝ }
     ensures { λ b. ⌜ b ≡ judgeIn low (newest i (now (journal .entry))) r ⌝ }
 {
     if !formed(r) {
@@ -226,7 +227,7 @@ fn judge(journal: &[u8], i: usize, low: u64, r: Record, s: State) -> bool
 
 // The place of the first record that fails, counted from 0, if there is one.
 pub fn walk(journal: &[u8], used: usize, low: u64) -> Walked
-    requires { ⌜ (used ≤ 2048) × (used * recordBytes ≤ length (now journal)) ⌝ }
+    requires { ⌜ (used ≤ mostRecords) × (used * recordBytes ≤ length (now journal)) ⌝ }
     ensures { λ r. ⌜ r ≡ walkIn low (newest used (now (journal .entry))) ⌝ }
 {
     let mut s = State::start(low);
