@@ -1,6 +1,6 @@
 /* The register store of a crankcase mist detector's recorder, for a host in C or C++.
  *
- * The library is target/staticlib/libhost.a, written by `rt staticlib host`, for x86-64 Linux. There are two stores
+ * The library is target/staticlib/libregisters.a, written by `rt staticlib registers`, for x86-64 Linux. There are two stores
  * with the same calls: the journal store keeps effects in a journal of 24-byte records above a base table, and can
  * be recovered from the bytes that survived a restart; the map store keeps versions. The host owns all memory and
  * lends it to each call.

@@ -5,16 +5,16 @@ use crate::line::Line;
 use crate::play::Play;
 use crate::say;
 use crate::sums;
-use host::Answer;
-use host::JournalOutcome;
-use host::journal_calls;
 use journal::Base;
 use journal::Journal;
 use journal_store::Head;
+use registers::Answer;
+use registers::JournalResult;
+use registers::journal_calls;
 
 // An empty store whose next number is given.
-fn numbered(floor: u32) -> JournalOutcome {
-    JournalOutcome {
+fn numbered(floor: u32) -> JournalResult {
+    JournalResult {
         head: Head {
             low: 0,
             floor,
@@ -74,7 +74,7 @@ fn asked(h: Head, keys: &[u32], values: &[u32], bytes: &[u8], call: Call) -> Ans
 }
 
 // Updates, what else is done to a store, and the calls that change nothing.
-fn updated(h: Head, keys: &[u32], values: &[u32], bytes: &mut [u8], call: Call) -> JournalOutcome {
+fn updated(h: Head, keys: &[u32], values: &[u32], bytes: &mut [u8], call: Call) -> JournalResult {
     let word = call.word;
     match word {
         Line::ASSIGN => journal_calls::registers_journal_assign(
@@ -98,12 +98,12 @@ fn updated(h: Head, keys: &[u32], values: &[u32], bytes: &mut [u8], call: Call) 
         Line::STORE => numbered(call.n),
         Line::FILL => {
             sums::fill(bytes, call);
-            JournalOutcome {
+            JournalResult {
                 head: h,
                 answer: say::alone(0),
             }
         }
-        _ => JournalOutcome {
+        _ => JournalResult {
             head: h,
             answer: asked(h, keys, values, bytes, call),
         },
@@ -111,7 +111,7 @@ fn updated(h: Head, keys: &[u32], values: &[u32], bytes: &mut [u8], call: Call) 
 }
 
 // The calls that change no base column.
-fn written(h: Head, keys: &[u32], values: &[u32], bytes: &mut [u8], call: Call) -> JournalOutcome {
+fn written(h: Head, keys: &[u32], values: &[u32], bytes: &mut [u8], call: Call) -> JournalResult {
     let word = call.word;
     match word {
         Line::BEGIN => journal_calls::registers_journal_begin(h, keys, values, bytes, call.a),
@@ -142,7 +142,7 @@ fn turn(
     values: &mut [u32],
     bytes: &mut [u8],
     call: Call,
-) -> JournalOutcome {
+) -> JournalResult {
     if call.word == Line::CHECKPOINT {
         return journal_calls::registers_journal_checkpoint(h, keys, values, bytes, call.a);
     }

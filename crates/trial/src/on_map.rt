@@ -5,16 +5,16 @@ use crate::line::Line;
 use crate::play::Play;
 use crate::say;
 use crate::sums;
-use host::Answer;
-use host::MapOutcome;
-use host::map_calls;
 use map_store::MapHead;
+use registers::Answer;
+use registers::MapResult;
+use registers::map_calls;
 use slot::Slot;
 use slot::Slots;
 
 // An empty store whose next number is given.
-fn numbered(next: u32) -> MapOutcome {
-    MapOutcome {
+fn numbered(next: u32) -> MapResult {
+    MapResult {
         head: MapHead {
             low: 0,
             last: 0,
@@ -83,7 +83,7 @@ fn asked(h: MapHead, keys: &[u32], times: &[u64], values: &[u32], call: Call) ->
 }
 
 // The calls that change no version.
-fn noted(h: MapHead, keys: &[u32], times: &[u64], values: &[u32], call: Call) -> MapOutcome {
+fn noted(h: MapHead, keys: &[u32], times: &[u64], values: &[u32], call: Call) -> MapResult {
     let word = call.word;
     match word {
         Line::BEGIN => map_calls::registers_map_begin(h, keys, times, values, call.a),
@@ -99,7 +99,7 @@ fn noted(h: MapHead, keys: &[u32], times: &[u64], values: &[u32], call: Call) ->
         Line::ADD => map_calls::registers_map_add(h, keys, times, values, call.n, call.k, call.v),
         Line::ABORT => map_calls::registers_map_abort(h, keys, times, values, call.n),
         Line::STORE => numbered(call.n),
-        _ => MapOutcome {
+        _ => MapResult {
             head: h,
             answer: asked(h, keys, times, values, call),
         },
@@ -113,7 +113,7 @@ fn turn(
     times: &mut [u64; say::ROWS],
     values: &mut [u32; say::ROWS],
     call: Call,
-) -> MapOutcome {
+) -> MapResult {
     let word = call.word;
     match word {
         Line::COMMIT => map_calls::registers_map_commit(h, keys, times, values, call.n, call.b),

@@ -2,7 +2,7 @@
 use crate::call::Call;
 use crate::line::Line;
 use crate::say;
-use host::Answer;
+use registers::Answer;
 use std::num::wrapping_add_u64;
 use std::num::wrapping_add_usize;
 

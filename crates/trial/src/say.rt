@@ -1,7 +1,7 @@
 // Answers made here, and what the program writes.
 use crate::line::Line;
-use host::Answer;
 use libc::STDOUT_FILENO;
+use registers::Answer;
 
 // What a line is answered whose word is no call of the store: no line wants this number.
 pub(crate) const NO_CALL: u32 = 99;

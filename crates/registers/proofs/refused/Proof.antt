@@ -1,4 +1,4 @@
--- `host::refused` meets its contract: 13 alone has a place. Assumes nothing.
+-- `registers::refused` meets its contract: 13 alone has a place. Assumes nothing.
 use mathlib.Core.Path.{_≡_, refl, sym, ap, _∙_}
 use mathlib.Core.List.{List, [], _∷_}
 use Prim.Native.Nat.{ℕ}
@@ -9,11 +9,11 @@ use Rattle.answer.proofs.Refusal.{the-type}
 use Rattle.answer.specs.declared.Refusal.{Refusal}
 use Rattle.answer.specs.declared.Refusal.the-variants.{BadShape, UnknownTransaction, BadKey, TooOld, Future, TooMany, NoNumbers, KeysFull, Held, NotLater, Conflict, NoRoom, BadRecord}
 use Rattle.answer.specs.Reply.{numberOf, placeOf, refused}
-use Rattle.host.specs.declared.Answer.{Answer}
-use Rattle.host.specs.Answer.{shown, answerOf}
+use Rattle.registers.specs.declared.Answer.{Answer}
+use Rattle.registers.specs.Answer.{shown, answerOf}
 use borrow.Author.Needs.{needs}
-use Rattle.host.proofs.refused.Statement.{statement}
-use Rattle.host.proofs.refused.Tie as tie
+use Rattle.registers.proofs.refused.Statement.{statement}
+use Rattle.registers.proofs.refused.Tie as tie
 
 -- the first twelve refusals
 abbrev twelve : List ℕ

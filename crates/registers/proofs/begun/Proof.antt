@@ -1,11 +1,11 @@
--- `host::begun` meets its contract: the number, or the refusal. Assumes nothing.
+-- `registers::begun` meets its contract: the number, or the refusal. Assumes nothing.
 use mathlib.Core.Path.{_≡_, sym, ap, _∙_}
 use Rattle.answer.specs.declared.Begun.{Begun}
 use Rattle.answer.specs.Reply.{ofBegun}
-use Rattle.host.specs.Answer.{answerOf}
+use Rattle.registers.specs.Answer.{answerOf}
 use borrow.Author.Needs.{needs}
-use Rattle.host.proofs.begun.Statement.{statement}
-use Rattle.host.proofs.begun.Tie as tie
+use Rattle.registers.proofs.begun.Statement.{statement}
+use Rattle.registers.proofs.begun.Tie as tie
 
 returns : tie.Need-returns
 returns c = c .beside .ensures ∙ sym (ap (λ (y : Begun). answerOf (ofBegun y)) (c .before .before .a .given .1))

@@ -6,9 +6,9 @@ use Rattle.rules.specs.declared.Value.the-variants.{Absent, Present}
 use Rattle.answer.specs.Reply.{Reply}
 use Rattle.journal_store.specs.declared.Head.{Head}
 use Rattle.map_store.specs.declared.MapHead.{MapHead}
-use Rattle.host.specs.declared.Answer.{Answer}
-use Rattle.host.specs.declared.JournalOutcome.{JournalOutcome}
-use Rattle.host.specs.declared.MapOutcome.{MapOutcome}
+use Rattle.registers.specs.declared.Answer.{Answer}
+use Rattle.registers.specs.declared.JournalResult.{JournalResult}
+use Rattle.registers.specs.declared.MapResult.{MapResult}
 
 -- a number with a value beside it: 1 and the value, or 0 and 0 for none
 abbrev pub shown : ℕ → Value → Answer
@@ -26,7 +26,7 @@ pub record Answers (holds : Reply → Type 0) (a : Answer) : Type 0 where
   pub meets : holds reply
 
 -- what is returned is a head and the answer of a reply of which a contract of the journal store holds
-pub record JournalReturns (holds : Reply → Head → Type 0) (r : JournalOutcome) : Type 0 where
+pub record JournalReturns (holds : Reply → Head → Type 0) (r : JournalResult) : Type 0 where
   pub reply : Reply
   pub head : Head
   pub heads : r .head ≡ head
@@ -34,7 +34,7 @@ pub record JournalReturns (holds : Reply → Head → Type 0) (r : JournalOutcom
   pub meets : holds reply head
 
 -- the same of the map store
-pub record MapReturns (holds : Reply → MapHead → Type 0) (r : MapOutcome) : Type 0 where
+pub record MapReturns (holds : Reply → MapHead → Type 0) (r : MapResult) : Type 0 where
   pub reply : Reply
   pub head : MapHead
   pub heads : r .head ≡ head

@@ -1,12 +1,12 @@
--- `host::got` meets its contract: the value, absent, or the refusal. Assumes nothing.
+-- `registers::got` meets its contract: the value, absent, or the refusal. Assumes nothing.
 use mathlib.Core.Path.{_≡_, sym, ap, _∙_}
 use Rattle.rules.specs.declared.Value.{Value}
 use Rattle.answer.specs.declared.Got.{Got}
 use Rattle.answer.specs.Reply.{accepted, ofGot}
-use Rattle.host.specs.Answer.{answerOf}
+use Rattle.registers.specs.Answer.{answerOf}
 use borrow.Author.Needs.{needs}
-use Rattle.host.proofs.got.Statement.{statement}
-use Rattle.host.proofs.got.Tie as tie
+use Rattle.registers.proofs.got.Statement.{statement}
+use Rattle.registers.proofs.got.Tie as tie
 
 returns : tie.Need-returns
 returns c =

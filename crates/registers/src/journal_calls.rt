@@ -4,33 +4,33 @@ ghost use Rattle.rules.specs.Calls.{Begin, Update, Abort, Commit};
 ghost use Rattle.journal_store.specs.Shape.{emptyHead};
 ghost use Rattle.journal_store.specs.Contracts.{Wrote, readDecided, lookupDecided, shapedReply, ListedBy, Checkpointed, Recovered};
 ghost use Rattle.answer.specs.Reply.{ofBegun, ofDone};
-ghost use Rattle.host.specs.Answer.{answerOf, Answers, JournalReturns};
+ghost use Rattle.registers.specs.Answer.{answerOf, Answers, JournalReturns};
 use crate::Answer;
-use crate::JournalOutcome;
+use crate::JournalResult;
 use journal_store::Head;
 use journal_store::Outcome;
 use journal_store::Started;
 use rules::Effect;
 
 // What begin returns.
-fn started(o: Started) -> JournalOutcome
+fn started(o: Started) -> JournalResult
     ensures { λ r. ⌜ (r .head ≡ o .head) × (r .answer ≡ answerOf (ofBegun (o .answer))) ⌝ }
 {
     let head = o.head;
     let answer = o.answer;
-    JournalOutcome {
+    JournalResult {
         head,
         answer: crate::begun(answer),
     }
 }
 
 // What the other calls return that change the store.
-fn ended(o: Outcome) -> JournalOutcome
+fn ended(o: Outcome) -> JournalResult
     ensures { λ r. ⌜ (r .head ≡ o .head) × (r .answer ≡ answerOf (ofDone (o .answer))) ⌝ }
 {
     let head = o.head;
     let answer = o.answer;
-    JournalOutcome {
+    JournalResult {
         head,
         answer: crate::done(answer),
     }
@@ -52,7 +52,7 @@ pub extern "C" fn registers_journal_begin(
     values: &[u32],
     journal: &mut [u8],
     t: u64,
-) -> JournalOutcome
+) -> JournalResult
     ensures { λ r. ⌜ JournalReturns (λ a head. Wrote (Begin t) h (now (keys .entry)) (now (values .entry)) (now (journal .entry)) a head (now (journal .exit))) r ⌝ }
 {
     started(journal_store::begin::begin(h, keys, values, journal, t))
@@ -68,7 +68,7 @@ pub extern "C" fn registers_journal_assign(
     n: u32,
     k: u32,
     v: u32,
-) -> JournalOutcome
+) -> JournalResult
     ensures { λ r. ⌜ JournalReturns (λ a head. Wrote (Update n k (Effect.Assign v)) h (now (keys .entry)) (now (values .entry)) (now (journal .entry)) a head (now (journal .exit))) r ⌝ }
 {
     ended(journal_store::update::update(h, keys, values, journal, n, k, Effect::Assign(v)))
@@ -84,7 +84,7 @@ pub extern "C" fn registers_journal_add(
     n: u32,
     k: u32,
     d: u32,
-) -> JournalOutcome
+) -> JournalResult
     ensures { λ r. ⌜ JournalReturns (λ a head. Wrote (Update n k (Effect.Add d)) h (now (keys .entry)) (now (values .entry)) (now (journal .entry)) a head (now (journal .exit))) r ⌝ }
 {
     ended(journal_store::update::update(h, keys, values, journal, n, k, Effect::Add(d)))
@@ -98,7 +98,7 @@ pub extern "C" fn registers_journal_abort(
     values: &[u32],
     journal: &mut [u8],
     n: u32,
-) -> JournalOutcome
+) -> JournalResult
     ensures { λ r. ⌜ JournalReturns (λ a head. Wrote (Abort n) h (now (keys .entry)) (now (values .entry)) (now (journal .entry)) a head (now (journal .exit))) r ⌝ }
 {
     ended(journal_store::abort::abort(h, keys, values, journal, n))
@@ -113,7 +113,7 @@ pub extern "C" fn registers_journal_commit(
     journal: &mut [u8],
     n: u32,
     t: u64,
-) -> JournalOutcome
+) -> JournalResult
     ensures { λ r. ⌜ JournalReturns (λ a head. Wrote (Commit n t) h (now (keys .entry)) (now (values .entry)) (now (journal .entry)) a head (now (journal .exit))) r ⌝ }
 {
     ended(journal_store::commit::commit(h, keys, values, journal, n, t))
@@ -173,7 +173,7 @@ pub extern "C" fn registers_journal_checkpoint(
     values: &mut [u32],
     journal: &mut [u8],
     t: u64,
-) -> JournalOutcome
+) -> JournalResult
     ensures { λ r. ⌜ JournalReturns (λ a head. Checkpointed t h (now (keys .entry)) (now (values .entry)) (now (journal .entry)) a head (now (keys .exit)) (now (values .exit)) (now (journal .exit))) r ⌝ }
 {
     ended(journal_checkpoint::checkpoint(h, keys, values, journal, t))
@@ -187,7 +187,7 @@ pub extern "C" fn registers_journal_recover(
     values: &[u32],
     journal: &mut [u8],
     survived: usize,
-) -> JournalOutcome
+) -> JournalResult
     ensures { λ r. ⌜ JournalReturns (λ a head. Recovered h (now (keys .entry)) (now (values .entry)) (now (journal .entry)) survived a head (now (journal .exit))) r ⌝ }
 {
     ended(journal_recovery::recover(h, keys, values, journal, survived))

@@ -1,9 +1,10 @@
 // Every call of both stores under a fixed name, for a host in C, C++ or Rust: on plain slices, and on structs of C's layout by value. A call hands
 // its arguments to the store and gives the answer as three numbers; it decides nothing, and asks nothing of its caller.
+// `about` gives a host what it can hold its own figures to.
 ghost use mathlib.Core.Path.{_≡_};
 ghost use Rattle.rules.specs.declared.Value.the-variants.{Absent, Present};
 ghost use Rattle.answer.specs.Reply.{refused as refusedBy, ofBegun, ofGot, ofDone, ofListed};
-ghost use Rattle.host.specs.Answer.{shown, answerOf};
+ghost use Rattle.registers.specs.Answer.{shown, answerOf};
 use answer::Begun;
 use answer::Done;
 use answer::Got;
@@ -13,6 +14,7 @@ use journal_store::Head;
 use map_store::MapHead;
 use rules::Value;
 
+pub mod about;
 pub mod journal_calls;
 pub mod map_calls;
 
@@ -26,14 +28,14 @@ pub struct Answer {
 
 // What a call that changes the journal store returns: the head to use from then on, and the answer.
 #[repr(C)]
-pub struct JournalOutcome {
+pub struct JournalResult {
     pub head: Head,
     pub answer: Answer,
 }
 
 // What a call that changes the map store returns: the head to use from then on, and the answer.
 #[repr(C)]
-pub struct MapOutcome {
+pub struct MapResult {
     pub head: MapHead,
     pub answer: Answer,
 }

@@ -5,33 +5,33 @@ ghost use Rattle.versions.specs.Versions.{columns};
 ghost use Rattle.map_store.specs.Shape.{emptyHead};
 ghost use Rattle.map_store.specs.Contracts.{Answered, Committed, readReply, lookupReply, ListedAt, Checkpointed};
 ghost use Rattle.answer.specs.Reply.{ofBegun, ofDone};
-ghost use Rattle.host.specs.Answer.{answerOf, Answers, MapReturns};
+ghost use Rattle.registers.specs.Answer.{answerOf, Answers, MapReturns};
 use crate::Answer;
-use crate::MapOutcome;
+use crate::MapResult;
 use map_store::MapHead;
 use map_store::Outcome;
 use map_store::Started;
 use rules::Effect;
 
 // What begin returns.
-fn started(o: Started) -> MapOutcome
+fn started(o: Started) -> MapResult
     ensures { λ r. ⌜ (r .head ≡ o .head) × (r .answer ≡ answerOf (ofBegun (o .answer))) ⌝ }
 {
     let head = o.head;
     let answer = o.answer;
-    MapOutcome {
+    MapResult {
         head,
         answer: crate::begun(answer),
     }
 }
 
 // What the other calls return that change the store.
-fn ended(o: Outcome) -> MapOutcome
+fn ended(o: Outcome) -> MapResult
     ensures { λ r. ⌜ (r .head ≡ o .head) × (r .answer ≡ answerOf (ofDone (o .answer))) ⌝ }
 {
     let head = o.head;
     let answer = o.answer;
-    MapOutcome {
+    MapResult {
         head,
         answer: crate::done(answer),
     }
@@ -53,7 +53,7 @@ pub extern "C" fn registers_map_begin(
     times: &[u64],
     values: &[u32],
     t: u64,
-) -> MapOutcome
+) -> MapResult
     ensures { λ r. ⌜ MapReturns (λ a head. Answered (Begin t) h (columns (now (keys .entry)) (now (times .entry)) (now (values .entry))) a head) r ⌝ }
 {
     started(map_store::begin::begin(h, keys, times, values, t))
@@ -69,7 +69,7 @@ pub extern "C" fn registers_map_assign(
     n: u32,
     k: u32,
     v: u32,
-) -> MapOutcome
+) -> MapResult
     ensures { λ r. ⌜ MapReturns (λ a head. Answered (Update n k (Effect.Assign v)) h (columns (now (keys .entry)) (now (times .entry)) (now (values .entry))) a head) r ⌝ }
 {
     ended(map_store::update::update(h, keys, times, values, n, k, Effect::Assign(v)))
@@ -85,7 +85,7 @@ pub extern "C" fn registers_map_add(
     n: u32,
     k: u32,
     d: u32,
-) -> MapOutcome
+) -> MapResult
     ensures { λ r. ⌜ MapReturns (λ a head. Answered (Update n k (Effect.Add d)) h (columns (now (keys .entry)) (now (times .entry)) (now (values .entry))) a head) r ⌝ }
 {
     ended(map_store::update::update(h, keys, times, values, n, k, Effect::Add(d)))
@@ -99,7 +99,7 @@ pub extern "C" fn registers_map_abort(
     times: &[u64],
     values: &[u32],
     n: u32,
-) -> MapOutcome
+) -> MapResult
     ensures { λ r. ⌜ MapReturns (λ a head. Answered (Abort n) h (columns (now (keys .entry)) (now (times .entry)) (now (values .entry))) a head) r ⌝ }
 {
     ended(map_store::abort::abort(h, keys, times, values, n))
@@ -114,7 +114,7 @@ pub extern "C" fn registers_map_commit(
     values: &mut [u32],
     n: u32,
     t: u64,
-) -> MapOutcome
+) -> MapResult
     ensures { λ r. ⌜ MapReturns (λ a head. Committed n t h (columns (now (keys .entry)) (now (times .entry)) (now (values .entry))) a head (columns (now (keys .exit)) (now (times .exit)) (now (values .exit)))) r ⌝ }
 {
     ended(map_commit::commit(h, keys, times, values, n, t))
@@ -174,7 +174,7 @@ pub extern "C" fn registers_map_checkpoint(
     times: &mut [u64],
     values: &mut [u32],
     t: u64,
-) -> MapOutcome
+) -> MapResult
     ensures { λ r. ⌜ MapReturns (λ a head. Checkpointed t h (columns (now (keys .entry)) (now (times .entry)) (now (values .entry))) a head (columns (now (keys .exit)) (now (times .exit)) (now (values .exit)))) r ⌝ }
 {
     ended(map_checkpoint::checkpoint(h, keys, times, values, t))

@@ -1,0 +1,2 @@
+-- What several proofs use.
+pub mod Laid
