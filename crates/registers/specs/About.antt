@@ -7,7 +7,6 @@ use Rattle.answer.specs.declared.Refusal.the-variants.{BadShape, UnknownTransac
 use Rattle.answer.specs.Reply.{numberOf}
 use Rattle.journal_store.specs.declared.Head.{Head}
 use Rattle.slot.specs.declared.Slot.{Slot}
-use Rattle.slot.specs.Slot.{room}
 use Rattle.map_store.specs.declared.MapHead.{MapHead}
 use Rattle.registers.specs.declared.about.Limits.{Limits}
 use Rattle.registers.specs.declared.about.Numbers.{Numbers}
@@ -57,12 +56,12 @@ countedFrom n (suc count) = n ∷ countedFrom (n + 1) count
 -- the fields of a slot, counted from n on
 abbrev pub slotFrom : ℕ → Slot
 slotFrom n =
-    record { number = n; snapshot = n + 1; count = n + 2; keys = countedFrom (n + 3) room; values = countedFrom (n + 3 + room) room }
+    record { number = n; snapshot = n + 1; count = n + 2; keys = countedFrom (n + 3) mostKeys; values = countedFrom (n + 3 + mostKeys) mostKeys }
 
 -- so many slots, counted from n on
 unfoldable pub slotsFrom : ℕ → ℕ → List Slot
 slotsFrom n zero = []
-slotsFrom n (suc count) = slotFrom n ∷ slotsFrom (n + (3 + 2 * room)) count
+slotsFrom n (suc count) = slotFrom n ∷ slotsFrom (n + (3 + 2 * mostKeys)) count
 
 -- the fields of a map head, counted through all slots
 abbrev pub mapSample : MapHead

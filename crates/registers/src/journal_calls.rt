@@ -44,50 +44,52 @@ pub extern "C" fn registers_journal_empty() -> Head
     Head::empty()
 }
 
-// Begins a transaction that reads as of t, and answers its number. Refusals 1, 4, 5, 6, 7, 12.
+// Begins a transaction that reads as of a time, and answers its number. Refusals 1, 4, 5, 6, 7, 12.
 #[no_mangle]
 pub extern "C" fn registers_journal_begin(
     h: Head,
     keys: &[u32],
     values: &[u32],
     journal: &mut [u8],
-    t: u64,
+    time: u64,
 ) -> JournalResult
-    ensures { λ r. ⌜ JournalReturns (λ a head. Wrote (Begin t) h (now (keys .entry)) (now (values .entry)) (now (journal .entry)) a head (now (journal .exit))) r ⌝ }
+    ensures { λ r. ⌜ JournalReturns (λ a head. Wrote (Begin time) h (now (keys .entry)) (now (values .entry)) (now (journal .entry)) a head (now (journal .exit))) r ⌝ }
 {
-    started(journal_store::begin::begin(h, keys, values, journal, t))
+    started(journal_store::begin::begin(h, keys, values, journal, time))
 }
 
-// A running transaction gives key k the value v. Refusals 1, 2, 3, 8, 12.
+// A running transaction gives a key a value. Refusals 1, 2, 3, 8, 12.
 #[no_mangle]
 pub extern "C" fn registers_journal_assign(
     h: Head,
     keys: &[u32],
     values: &[u32],
     journal: &mut [u8],
-    n: u32,
-    k: u32,
-    v: u32,
+    transaction: u32,
+    key: u32,
+    value: u32,
 ) -> JournalResult
-    ensures { λ r. ⌜ JournalReturns (λ a head. Wrote (Update n k (Effect.Assign v)) h (now (keys .entry)) (now (values .entry)) (now (journal .entry)) a head (now (journal .exit))) r ⌝ }
+    ensures { λ r. ⌜ JournalReturns (λ a head. Wrote (Update transaction key (Effect.Assign value)) h (now (keys .entry)) (now (values .entry)) (now (journal .entry)) a head (now (journal .exit))) r ⌝ }
 {
-    ended(journal_store::update::update(h, keys, values, journal, n, k, Effect::Assign(v)))
+    let e = Effect::Assign(value);
+    ended(journal_store::update::update(h, keys, values, journal, transaction, key, e))
 }
 
-// A running transaction adds d to key k. Refusals 1, 2, 3, 8, 12.
+// A running transaction adds to a key. Refusals 1, 2, 3, 8, 12.
 #[no_mangle]
 pub extern "C" fn registers_journal_add(
     h: Head,
     keys: &[u32],
     values: &[u32],
     journal: &mut [u8],
-    n: u32,
-    k: u32,
-    d: u32,
+    transaction: u32,
+    key: u32,
+    amount: u32,
 ) -> JournalResult
-    ensures { λ r. ⌜ JournalReturns (λ a head. Wrote (Update n k (Effect.Add d)) h (now (keys .entry)) (now (values .entry)) (now (journal .entry)) a head (now (journal .exit))) r ⌝ }
+    ensures { λ r. ⌜ JournalReturns (λ a head. Wrote (Update transaction key (Effect.Add amount)) h (now (keys .entry)) (now (values .entry)) (now (journal .entry)) a head (now (journal .exit))) r ⌝ }
 {
-    ended(journal_store::update::update(h, keys, values, journal, n, k, Effect::Add(d)))
+    let e = Effect::Add(amount);
+    ended(journal_store::update::update(h, keys, values, journal, transaction, key, e))
 }
 
 // Ends a running transaction; its updates have no effect. Refusals 1, 2, 12.
@@ -97,86 +99,86 @@ pub extern "C" fn registers_journal_abort(
     keys: &[u32],
     values: &[u32],
     journal: &mut [u8],
-    n: u32,
+    transaction: u32,
 ) -> JournalResult
-    ensures { λ r. ⌜ JournalReturns (λ a head. Wrote (Abort n) h (now (keys .entry)) (now (values .entry)) (now (journal .entry)) a head (now (journal .exit))) r ⌝ }
+    ensures { λ r. ⌜ JournalReturns (λ a head. Wrote (Abort transaction) h (now (keys .entry)) (now (values .entry)) (now (journal .entry)) a head (now (journal .exit))) r ⌝ }
 {
-    ended(journal_store::abort::abort(h, keys, values, journal, n))
+    ended(journal_store::abort::abort(h, keys, values, journal, transaction))
 }
 
-// Commits a running transaction at t, a time later than last. Refusals 1, 2, 10, 11, 12.
+// Commits a running transaction at a time later than last. Refusals 1, 2, 10, 11, 12.
 #[no_mangle]
 pub extern "C" fn registers_journal_commit(
     h: Head,
     keys: &[u32],
     values: &[u32],
     journal: &mut [u8],
-    n: u32,
-    t: u64,
+    transaction: u32,
+    time: u64,
 ) -> JournalResult
-    ensures { λ r. ⌜ JournalReturns (λ a head. Wrote (Commit n t) h (now (keys .entry)) (now (values .entry)) (now (journal .entry)) a head (now (journal .exit))) r ⌝ }
+    ensures { λ r. ⌜ JournalReturns (λ a head. Wrote (Commit transaction time) h (now (keys .entry)) (now (values .entry)) (now (journal .entry)) a head (now (journal .exit))) r ⌝ }
 {
-    ended(journal_store::commit::commit(h, keys, values, journal, n, t))
+    ended(journal_store::commit::commit(h, keys, values, journal, transaction, time))
 }
 
-// The value of k as a running transaction sees it, or absent. Refusals 1, 2, 3.
+// The value of a key as a running transaction sees it, or absent. Refusals 1, 2, 3.
 #[no_mangle]
 pub extern "C" fn registers_journal_read(
     h: Head,
     keys: &[u32],
     values: &[u32],
     journal: &[u8],
-    n: u32,
-    k: u32,
+    transaction: u32,
+    key: u32,
 ) -> Answer
-    ensures { λ r. ⌜ Answers (λ a. a ≡ shapedReply h (now (keys .entry)) (now (values .entry)) (now (journal .entry)) (readDecided n k)) r ⌝ }
+    ensures { λ r. ⌜ Answers (λ a. a ≡ shapedReply h (now (keys .entry)) (now (values .entry)) (now (journal .entry)) (readDecided transaction key)) r ⌝ }
 {
-    crate::got(journal_store::read::read(h, keys, values, journal, n, k))
+    crate::got(journal_store::read::read(h, keys, values, journal, transaction, key))
 }
 
-// The committed value of k at t, or absent. Refusals 1, 3, 4, 5.
+// The committed value of a key at a time, or absent. Refusals 1, 3, 4, 5.
 #[no_mangle]
 pub extern "C" fn registers_journal_lookup(
     h: Head,
     keys: &[u32],
     values: &[u32],
     journal: &[u8],
-    k: u32,
-    t: u64,
+    key: u32,
+    time: u64,
 ) -> Answer
-    ensures { λ r. ⌜ Answers (λ a. a ≡ shapedReply h (now (keys .entry)) (now (values .entry)) (now (journal .entry)) (lookupDecided k t)) r ⌝ }
+    ensures { λ r. ⌜ Answers (λ a. a ≡ shapedReply h (now (keys .entry)) (now (values .entry)) (now (journal .entry)) (lookupDecided key time)) r ⌝ }
 {
-    crate::got(journal_store::lookup::lookup(h, keys, values, journal, k, t))
+    crate::got(journal_store::lookup::lookup(h, keys, values, journal, key, time))
 }
 
-// The list at t, into two lent columns, keys and values; answers the count of rows. Refusals 1, 4, 5, 12.
+// The list at a time, into two lent columns, keys and values; answers the count of rows. Refusals 1, 4, 5, 12.
 #[no_mangle]
 pub extern "C" fn registers_journal_list(
     h: Head,
     keys: &[u32],
     values: &[u32],
     journal: &[u8],
-    t: u64,
+    time: u64,
     listed: &mut [u32],
     contents: &mut [u32],
 ) -> Answer
-    ensures { λ r. ⌜ Answers (λ a. ListedBy h (now (keys .entry)) (now (values .entry)) (now (journal .entry)) t (now (listed .entry)) (now (contents .entry)) a (now (listed .exit)) (now (contents .exit))) r ⌝ }
+    ensures { λ r. ⌜ Answers (λ a. ListedBy h (now (keys .entry)) (now (values .entry)) (now (journal .entry)) time (now (listed .entry)) (now (contents .entry)) a (now (listed .exit)) (now (contents .exit))) r ⌝ }
 {
-    crate::listed(journal_list::list(h, keys, values, journal, t, listed, contents))
+    crate::listed(journal_list::list(h, keys, values, journal, time, listed, contents))
 }
 
-// The base becomes the list at t, and the journal keeps what is still needed. Refusals 1, 4, 5, 9, 12.
+// The base becomes the list at a time, and the journal keeps what is still needed. Refusals 1, 4, 5, 9, 12.
 #[no_mangle]
 pub extern "C" fn registers_journal_checkpoint(
     h: Head,
     keys: &mut [u32],
     values: &mut [u32],
     journal: &mut [u8],
-    t: u64,
+    time: u64,
 ) -> JournalResult
-    ensures { λ r. ⌜ JournalReturns (λ a head. Checkpointed t h (now (keys .entry)) (now (values .entry)) (now (journal .entry)) a head (now (keys .exit)) (now (values .exit)) (now (journal .exit))) r ⌝ }
+    ensures { λ r. ⌜ JournalReturns (λ a head. Checkpointed time h (now (keys .entry)) (now (values .entry)) (now (journal .entry)) a head (now (keys .exit)) (now (values .exit)) (now (journal .exit))) r ⌝ }
 {
-    ended(journal_checkpoint::checkpoint(h, keys, values, journal, t))
+    ended(journal_checkpoint::checkpoint(h, keys, values, journal, time))
 }
 
 // Takes the bytes that survived a restart for the journal; 13 comes with the place of the first record that fails. Refusals 1, 13.

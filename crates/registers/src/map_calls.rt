@@ -45,50 +45,52 @@ pub extern "C" fn registers_map_empty() -> MapHead
     MapHead::empty()
 }
 
-// Begins a transaction that reads as of t, and answers its number. Refusals 1, 4, 5, 6, 7.
+// Begins a transaction that reads as of a time, and answers its number. Refusals 1, 4, 5, 6, 7.
 #[no_mangle]
 pub extern "C" fn registers_map_begin(
     h: MapHead,
     keys: &[u32],
     times: &[u64],
     values: &[u32],
-    t: u64,
+    time: u64,
 ) -> MapResult
-    ensures { λ r. ⌜ MapReturns (λ a head. Answered (Begin t) h (columns (now (keys .entry)) (now (times .entry)) (now (values .entry))) a head) r ⌝ }
+    ensures { λ r. ⌜ MapReturns (λ a head. Answered (Begin time) h (columns (now (keys .entry)) (now (times .entry)) (now (values .entry))) a head) r ⌝ }
 {
-    started(map_store::begin::begin(h, keys, times, values, t))
+    started(map_store::begin::begin(h, keys, times, values, time))
 }
 
-// A running transaction gives key k the value v. Refusals 1, 2, 3, 8.
+// A running transaction gives a key a value. Refusals 1, 2, 3, 8.
 #[no_mangle]
 pub extern "C" fn registers_map_assign(
     h: MapHead,
     keys: &[u32],
     times: &[u64],
     values: &[u32],
-    n: u32,
-    k: u32,
-    v: u32,
+    transaction: u32,
+    key: u32,
+    value: u32,
 ) -> MapResult
-    ensures { λ r. ⌜ MapReturns (λ a head. Answered (Update n k (Effect.Assign v)) h (columns (now (keys .entry)) (now (times .entry)) (now (values .entry))) a head) r ⌝ }
+    ensures { λ r. ⌜ MapReturns (λ a head. Answered (Update transaction key (Effect.Assign value)) h (columns (now (keys .entry)) (now (times .entry)) (now (values .entry))) a head) r ⌝ }
 {
-    ended(map_store::update::update(h, keys, times, values, n, k, Effect::Assign(v)))
+    let e = Effect::Assign(value);
+    ended(map_store::update::update(h, keys, times, values, transaction, key, e))
 }
 
-// A running transaction adds d to key k. Refusals 1, 2, 3, 8.
+// A running transaction adds to a key. Refusals 1, 2, 3, 8.
 #[no_mangle]
 pub extern "C" fn registers_map_add(
     h: MapHead,
     keys: &[u32],
     times: &[u64],
     values: &[u32],
-    n: u32,
-    k: u32,
-    d: u32,
+    transaction: u32,
+    key: u32,
+    amount: u32,
 ) -> MapResult
-    ensures { λ r. ⌜ MapReturns (λ a head. Answered (Update n k (Effect.Add d)) h (columns (now (keys .entry)) (now (times .entry)) (now (values .entry))) a head) r ⌝ }
+    ensures { λ r. ⌜ MapReturns (λ a head. Answered (Update transaction key (Effect.Add amount)) h (columns (now (keys .entry)) (now (times .entry)) (now (values .entry))) a head) r ⌝ }
 {
-    ended(map_store::update::update(h, keys, times, values, n, k, Effect::Add(d)))
+    let e = Effect::Add(amount);
+    ended(map_store::update::update(h, keys, times, values, transaction, key, e))
 }
 
 // Ends a running transaction; its updates have no effect. Refusals 1, 2.
@@ -98,84 +100,84 @@ pub extern "C" fn registers_map_abort(
     keys: &[u32],
     times: &[u64],
     values: &[u32],
-    n: u32,
+    transaction: u32,
 ) -> MapResult
-    ensures { λ r. ⌜ MapReturns (λ a head. Answered (Abort n) h (columns (now (keys .entry)) (now (times .entry)) (now (values .entry))) a head) r ⌝ }
+    ensures { λ r. ⌜ MapReturns (λ a head. Answered (Abort transaction) h (columns (now (keys .entry)) (now (times .entry)) (now (values .entry))) a head) r ⌝ }
 {
-    ended(map_store::abort::abort(h, keys, times, values, n))
+    ended(map_store::abort::abort(h, keys, times, values, transaction))
 }
 
-// Commits a running transaction at t, a time later than last. Refusals 1, 2, 10, 11, 12.
+// Commits a running transaction at a time later than last. Refusals 1, 2, 10, 11, 12.
 #[no_mangle]
 pub extern "C" fn registers_map_commit(
     h: MapHead,
     keys: &mut [u32],
     times: &mut [u64],
     values: &mut [u32],
-    n: u32,
-    t: u64,
+    transaction: u32,
+    time: u64,
 ) -> MapResult
-    ensures { λ r. ⌜ MapReturns (λ a head. Committed n t h (columns (now (keys .entry)) (now (times .entry)) (now (values .entry))) a head (columns (now (keys .exit)) (now (times .exit)) (now (values .exit)))) r ⌝ }
+    ensures { λ r. ⌜ MapReturns (λ a head. Committed transaction time h (columns (now (keys .entry)) (now (times .entry)) (now (values .entry))) a head (columns (now (keys .exit)) (now (times .exit)) (now (values .exit)))) r ⌝ }
 {
-    ended(map_commit::commit(h, keys, times, values, n, t))
+    ended(map_commit::commit(h, keys, times, values, transaction, time))
 }
 
-// The value of k as a running transaction sees it, or absent. Refusals 1, 2, 3.
+// The value of a key as a running transaction sees it, or absent. Refusals 1, 2, 3.
 #[no_mangle]
 pub extern "C" fn registers_map_read(
     h: MapHead,
     keys: &[u32],
     times: &[u64],
     values: &[u32],
-    n: u32,
-    k: u32,
+    transaction: u32,
+    key: u32,
 ) -> Answer
-    ensures { λ r. ⌜ Answers (λ a. a ≡ readReply n k h (columns (now (keys .entry)) (now (times .entry)) (now (values .entry)))) r ⌝ }
+    ensures { λ r. ⌜ Answers (λ a. a ≡ readReply transaction key h (columns (now (keys .entry)) (now (times .entry)) (now (values .entry)))) r ⌝ }
 {
-    crate::got(map_store::read::read(h, keys, times, values, n, k))
+    crate::got(map_store::read::read(h, keys, times, values, transaction, key))
 }
 
-// The committed value of k at t, or absent. Refusals 1, 3, 4, 5.
+// The committed value of a key at a time, or absent. Refusals 1, 3, 4, 5.
 #[no_mangle]
 pub extern "C" fn registers_map_lookup(
     h: MapHead,
     keys: &[u32],
     times: &[u64],
     values: &[u32],
-    k: u32,
-    t: u64,
+    key: u32,
+    time: u64,
 ) -> Answer
-    ensures { λ r. ⌜ Answers (λ a. a ≡ lookupReply k t h (columns (now (keys .entry)) (now (times .entry)) (now (values .entry)))) r ⌝ }
+    ensures { λ r. ⌜ Answers (λ a. a ≡ lookupReply key time h (columns (now (keys .entry)) (now (times .entry)) (now (values .entry)))) r ⌝ }
 {
-    crate::got(map_store::lookup::lookup(h, keys, times, values, k, t))
+    crate::got(map_store::lookup::lookup(h, keys, times, values, key, time))
 }
 
-// The list at t, into two lent columns, keys and values; answers the count of rows. Refusals 1, 4, 5, 12.
+// The list at a time, into two lent columns, keys and values; answers the count of rows. Refusals 1, 4, 5, 12.
 #[no_mangle]
 pub extern "C" fn registers_map_list(
     h: MapHead,
     keys: &[u32],
     times: &[u64],
     values: &[u32],
-    t: u64,
+    time: u64,
     listed: &mut [u32],
     contents: &mut [u32],
 ) -> Answer
-    ensures { λ r. ⌜ Answers (λ a. ListedAt t h (columns (now (keys .entry)) (now (times .entry)) (now (values .entry))) (now (listed .entry)) (now (contents .entry)) a (now (listed .exit)) (now (contents .exit))) r ⌝ }
+    ensures { λ r. ⌜ Answers (λ a. ListedAt time h (columns (now (keys .entry)) (now (times .entry)) (now (values .entry))) (now (listed .entry)) (now (contents .entry)) a (now (listed .exit)) (now (contents .exit))) r ⌝ }
 {
-    crate::listed(map_list::list(h, keys, times, values, t, listed, contents))
+    crate::listed(map_list::list(h, keys, times, values, time, listed, contents))
 }
 
-// Low becomes t; kept are the versions after t and, for each key, its newest at or before t. Refusals 1, 4, 5, 9.
+// Low becomes a time; kept are the versions after it and, for each key, its newest at or before it. Refusals 1, 4, 5, 9.
 #[no_mangle]
 pub extern "C" fn registers_map_checkpoint(
     h: MapHead,
     keys: &mut [u32],
     times: &mut [u64],
     values: &mut [u32],
-    t: u64,
+    time: u64,
 ) -> MapResult
-    ensures { λ r. ⌜ MapReturns (λ a head. Checkpointed t h (columns (now (keys .entry)) (now (times .entry)) (now (values .entry))) a head (columns (now (keys .exit)) (now (times .exit)) (now (values .exit)))) r ⌝ }
+    ensures { λ r. ⌜ MapReturns (λ a head. Checkpointed time h (columns (now (keys .entry)) (now (times .entry)) (now (values .entry))) a head (columns (now (keys .exit)) (now (times .exit)) (now (values .exit)))) r ⌝ }
 {
-    ended(map_checkpoint::checkpoint(h, keys, times, values, t))
+    ended(map_checkpoint::checkpoint(h, keys, times, values, time))
 }

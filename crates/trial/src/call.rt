@@ -2,7 +2,7 @@
 ghost use Prim.Native.Nat.{_≤_};
 use crate::say;
 use crate::sums;
-use host::Answer;
+use registers::Answer;
 
 // The word of a call, or of what else can be done to a store; 0 asks nothing. Its numbers: as times or counts, and as numbers of
 // transactions, keys and values.
