@@ -16,9 +16,9 @@ use Rattle.rules.specs.Transactions.{any, of, running}
 use Rattle.rules.specs.Times.{last}
 use Rattle.rules.specs.Checkpoints.{late, stays, isKnown, known, raise, sift, kept}
 use Rattle.rules.specs.Recovery.{formed, judge, accepts, done, only, survivors}
-use Rattle.record.specs.Bytes.{newest}
+use Rattle.record.specs.Bytes.{recordsIn}
 use Rattle.record.specs.Laws.{Fit}
-use Rattle.record.specs.Laid.{laid, AllFit, none, more, length-laid, newest-laid, drop-more}
+use Rattle.record.specs.Laid.{laid, AllFit, none, more, length-laid, records-laid, drop-more}
 use Rattle.journal.specs.Gathered.{lates, Gathered, running-held, late-held}
 use Rattle.journal.specs.Past.{low-last}
 use Rattle.walk.specs.Judged.{judged}
@@ -134,8 +134,8 @@ module _ (stay : List Record) (end : ℕ) (b : List ℕ) where
   pub length-compacted : length stay * recordBytes ≤ end → end ≤ length b → length (compacted stay end b) ≡ length b
   length-compacted h l = simp (length-append, length-laid stay, length-replicate, length-drop) (omega arith)
 
-  pub newest-compacted : AllFit stay → newest (length stay) (compacted stay end b) ≡ stay
-  newest-compacted f = newest-laid stay (replicate (end - length stay * recordBytes) 0 ++ drop end b) f
+  pub records-compacted : AllFit stay → recordsIn (length stay) (compacted stay end b) ≡ stay
+  records-compacted f = records-laid stay (replicate (end - length stay * recordBytes) 0 ++ drop end b) f
 
 -- what stays fits its bytes
 fit-raise : (T : ℕ) (r : Record) → T < 2 ^ 64 → Fit r → Fit (raise T r)

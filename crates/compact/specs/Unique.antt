@@ -6,7 +6,7 @@ use Rattle.rules.specs.declared.Record.{Record}
 use Rattle.rules.specs.Kinds.{recordBytes}
 use Rattle.rules.specs.Checkpoints.{kept}
 use Rattle.rules.specs.Recovery.{survivors}
-use Rattle.record.specs.Bytes.{newest}
+use Rattle.record.specs.Bytes.{recordsIn}
 use Rattle.compact.specs.Compact.{Compacted}
 
 once : (stay : List Record) (end : ℕ) (journal : List ℕ) (r s : ℕ) (exit other : List ℕ)
@@ -15,14 +15,14 @@ once stay end journal r s exit other p q = (p .count ∙ sym (q .count), p .cell
 
 -- keep_running: how many stay, and the journal at exit
 pub keep-running-once : (journal : List ℕ) (used t r s : ℕ) (exit other : List ℕ)
-    → Compacted (kept t (newest used journal)) (used * recordBytes) journal r exit
-    → Compacted (kept t (newest used journal)) (used * recordBytes) journal s other
+    → Compacted (kept t (recordsIn used journal)) (used * recordBytes) journal r exit
+    → Compacted (kept t (recordsIn used journal)) (used * recordBytes) journal s other
     → (r ≡ s) × (exit ≡ other)
-keep-running-once journal used t r s exit other p q = once (kept t (newest used journal)) (used * recordBytes) journal r s exit other p q
+keep-running-once journal used t r s exit other p q = once (kept t (recordsIn used journal)) (used * recordBytes) journal r s exit other p q
 
 -- keep_done: the same
 pub keep-done-once : (journal : List ℕ) (used end r s : ℕ) (exit other : List ℕ)
-    → Compacted (survivors (newest used journal)) end journal r exit
-    → Compacted (survivors (newest used journal)) end journal s other
+    → Compacted (survivors (recordsIn used journal)) end journal r exit
+    → Compacted (survivors (recordsIn used journal)) end journal s other
     → (r ≡ s) × (exit ≡ other)
-keep-done-once journal used end r s exit other p q = once (survivors (newest used journal)) end journal r s exit other p q
+keep-done-once journal used end r s exit other p q = once (survivors (recordsIn used journal)) end journal r s exit other p q

@@ -9,7 +9,7 @@ ghost use Rattle.rules.specs.Kinds.{recordBytes};
 ghost use Rattle.rules.specs.Lists.{among};
 ghost use Rattle.rules.specs.Checkpoints.{raise as raised, kept};
 ghost use Rattle.rules.specs.Recovery.{accepts, survivors};
-ghost use Rattle.record.specs.Bytes.{newest};
+ghost use Rattle.record.specs.Bytes.{recordsIn};
 ghost use Rattle.compact.specs.Marks.{MarkSet, Marks};
 ghost use Rattle.compact.specs.Compact.{keptIn, sifted, zeroed, Moved, Compacted};
 use journal::Journal;
@@ -129,7 +129,7 @@ fn keep(
     alone: bool,
 ) -> usize
     requires { ⌜ (used * recordBytes ≤ length (now journal)) × Marks (take late (now lates)) (now marks) alone ⌝ }
-    ensures { λ r. ⌜ Moved (sifted (keptIn (take opened (now (running .entry))) (take late (now (lates .entry)))) t (newest used (now (journal .entry)))) (now (journal .entry)) used r (now (journal .exit)) ⌝ }
+    ensures { λ r. ⌜ Moved (sifted (keptIn (take opened (now (running .entry))) (take late (now (lates .entry)))) t (recordsIn used (now (journal .entry)))) (now (journal .entry)) used r (now (journal .exit)) ⌝ }
 {
     let mut count = 0;
     let mut i = 0;
@@ -159,7 +159,7 @@ fn zero(bytes: &mut [u8], from: usize, to: usize)
 // Rule 3.9: the records of the transactions that run or committed after a time stay, the begins raised to it; how many they are.
 pub fn keep_running(journal: &mut [u8], used: usize, t: u64) -> usize
     requires { ⌜ (used ≤ mostRecords) × (used * recordBytes ≤ length (now journal)) ⌝ }
-    ensures { λ r. ⌜ Compacted (kept t (newest used (now (journal .entry)))) (used * recordBytes) (now (journal .entry)) r (now (journal .exit)) ⌝ }
+    ensures { λ r. ⌜ Compacted (kept t (recordsIn used (now (journal .entry)))) (used * recordBytes) (now (journal .entry)) r (now (journal .exit)) ⌝ }
 {
     let mut running = [0u32; Journal::RECORDS];
     let opened = transactions::running_numbers(journal, used, &mut running);
@@ -185,8 +185,8 @@ pub fn keep_running(journal: &mut [u8], used: usize, t: u64) -> usize
 // Section 5: of the records that recovery's walk has accepted, those of the transactions with a commit stay; how many they are. Everything
 // behind them, up to a place, becomes zero. An accepted commit is later than low, and an accepted snapshot not below it.
 pub fn keep_done(journal: &mut [u8], used: usize, low: u64, end: usize) -> usize
-    requires { ⌜ (used ≤ mostRecords) × (used * recordBytes ≤ end) × (end ≤ length (now journal)) × (accepts low (newest used (now journal)) ≡ true) ⌝ }
-    ensures { λ r. ⌜ Compacted (survivors (newest used (now (journal .entry)))) end (now (journal .entry)) r (now (journal .exit)) ⌝ }
+    requires { ⌜ (used ≤ mostRecords) × (used * recordBytes ≤ end) × (end ≤ length (now journal)) × (accepts low (recordsIn used (now journal)) ≡ true) ⌝ }
+    ensures { λ r. ⌜ Compacted (survivors (recordsIn used (now (journal .entry)))) end (now (journal .entry)) r (now (journal .exit)) ⌝ }
 {
     let mut lates = [0u32; Journal::RECORDS];
     let late = conflicts::late_numbers(journal, used, low, &mut lates);

@@ -16,7 +16,7 @@ use Rattle.rules.specs.Transactions.{runs, running}
 use Rattle.rules.specs.Listing.{Lists}
 use Rattle.rules.specs.Running.{running-runs}
 use Rattle.rules.specs.Calls.{Store, lastOf, valueOf, listOf, readOf, Call, Begin, Update, Abort, Commit, gives, readRefusal, lookupRefusal, listRefusal, checkpointRefusal, need, withRoom, answer, listAnswer, checkpointAnswer}
-use Rattle.record.specs.Laws.{length-newest}
+use Rattle.record.specs.Laws.{length-records}
 use Rattle.answer.specs.Reply.{Reply, accepted, told}
 use Rattle.journal_store.specs.declared.Head.{Head}
 use Rattle.journal_store.specs.Shape.{roomOf, rowRoom, meaning}
@@ -169,7 +169,7 @@ module _ {room : ℕ → Type 0} {ds : List Deed} {since : ℕ} {x : Cells} (r :
     number-is c =
         rw (lent-passes r keys values journal l)
         (ap (answer (roomOf (length journal)) c) (lent-meaning r keys values journal l)
-        ∙ rw (refused-is (Did c), needed c, length-newest (x .head .journal .used) (x .journal)))
+        ∙ rw (refused-is (Did c), needed c, length-records (x .head .journal .used) (x .journal)))
 
     pub calls-answer : (c : Call) (a : Reply) (head : Head) (journal' : List ℕ) → Wrote c (x .head) keys values journal a head journal'
         → a ≡ told (numberIn (x .head .journal .used) (roomOf (length journal)) c (history ds)) (givesIn c (history ds))

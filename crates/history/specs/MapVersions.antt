@@ -7,10 +7,11 @@ use native.Mathlib.Omega.{arith}
 use lib.Dec.{eqb, leb, ltb}
 use lib.ListN.{length}
 use borrow.Author.Tests.{eqb-true, eq-eqb, leb-true, leb-false, ltb-true, ltb-false, le-leb, lt-leb, lt-ltb, le-ltb}
+use Rattle.rules.specs.Effects.{orElse}
 use Rattle.rules.specs.declared.Value.{Value}
 use Rattle.rules.specs.declared.Value.the-variants.{Absent, Present}
 use Rattle.rules.specs.Bools.{split, and-left, and-right, or-none-left, or-none-right, and-false, or-false}
-use Rattle.slot.specs.Places.{Note, hasKey, orElse, runningValue}
+use Rattle.slot.specs.Places.{Note, hasKey, runningValue}
 use Rattle.versions.specs.declared.Version.{Version}
 use Rattle.versions.specs.Versions.{Best, nothing, at, better, newestStep, newest, shown, later, isRow, thin}
 use Rattle.map_store.specs.Meaning.{stamp}

@@ -17,7 +17,7 @@ use Rattle.slot.specs.Places.{placesOf}
 use Rattle.versions.specs.Versions.{columns, versionsOf}
 use Rattle.journal_store.specs.Shape.{emptyHead, grown}
 use Rattle.journal_store.specs.Contracts.{number, Wrote, lookupDecided, shapedReply}
-use Rattle.map_store.specs.Heads.{headAfter, rowsIn, written}
+use Rattle.map_store.specs.Heads.{headAfter, rowsIn, stamped}
 use Rattle.map_store.specs.Contracts.{Answered, Committed, lookupReply}
 use Rattle.history.specs.Cells.{Cells, meaningOf}
 use Rattle.history.specs.MapCells.{MapCells, mapMeaningOf}
@@ -66,7 +66,7 @@ versioned (Commit n t) x =
     after (contract.number (Commit n t) (x .head) (x .columns))
     (record {
       head = headAfter (Commit n t) (x .head) (versionsOf (x .head .used) (x .columns));
-      columns = written (x .head .used) t rows (x .columns);
+      columns = stamped (x .head .used) t rows (x .columns);
     })
     x
 

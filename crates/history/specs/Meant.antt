@@ -22,8 +22,8 @@ use Rattle.rules.specs.Recovery.{survivors}
 use Rattle.rules.specs.Calls.{Store, nextOf, Call, recordOf, refusal, checkpointRefusal, need, answer, checkpointAnswer, listOf}
 use Rattle.rules.specs.Passed.{fitting}
 use Rattle.rules.specs.RoomLaws.{Roomy, room-for-each}
-use Rattle.record.specs.Bytes.{Bytes, newest, appended}
-use Rattle.record.specs.Laws.{newest-front, length-newest, drop-newest}
+use Rattle.record.specs.Bytes.{Bytes, recordsIn, appended}
+use Rattle.record.specs.Laws.{records-front, length-records, drop-records}
 use Rattle.answer.specs.Reply.{Reply, after}
 use Rattle.compact.specs.Compact.{compacted}
 use Rattle.journal_store.specs.declared.Head.{Head}
@@ -51,13 +51,13 @@ pub record Meant (room : ℕ → Type 0) (ds : List Deed) (since : ℕ) (x : Cel
   pub steady : (bytes : ℕ) → ((n : ℕ) → room n → n ≡ bytes) → Roomy (roomOf bytes) (meaningOf x)
 
 -- the first records are read from the first bytes
-newest-prefix : (n m : ℕ) (b : List ℕ) → n * recordBytes ≤ m → m ≤ length b → newest n (take m b) ≡ newest n b
+newest-prefix : (n m : ℕ) (b : List ℕ) → n * recordBytes ≤ m → m ≤ length b → recordsIn n (take m b) ≡ recordsIn n b
 newest-prefix n m b i l =
     let e = length-take-le m b l in
-    sym (newest-front (take m b) (drop m b) n (omega arith)) ∙ ap (newest n) (take-append-drop m b)
+    sym (records-front (take m b) (drop m b) n (omega arith)) ∙ ap (recordsIn n) (take-append-drop m b)
 
-pub newest-held : (n m : ℕ) (a b : List ℕ) → n * recordBytes ≤ m → m ≤ length a → m ≤ length b → take m a ≡ take m b → newest n a ≡ newest n b
-newest-held n m a b i l k e = sym (newest-prefix n m a i l) ∙ ap (newest n) e ∙ newest-prefix n m b i k
+pub newest-held : (n m : ℕ) (a b : List ℕ) → n * recordBytes ≤ m → m ≤ length a → m ≤ length b → take m a ≡ take m b → recordsIn n a ≡ recordsIn n b
+newest-held n m a b i l k e = sym (newest-prefix n m a i l) ∙ ap (recordsIn n) e ∙ newest-prefix n m b i k
 
 -- what is lent means what the store means
 pub held-meaning : (x : Cells) (keys values journal : List ℕ) → Shaped (x .head) (length (x .keys)) (length (x .values)) (length (x .journal))
@@ -108,7 +108,7 @@ module _ {room : ℕ → Type 0} {ds : List Deed} {since : ℕ} {x : Cells} (m :
         let s = meaning (x .head) keys values journal in
         let a : answer (roomOf (length journal)) c s ≡ 0 = rw b at e in
         let l = room-left (roomOf (length journal)) c s a in
-        let n = length-newest (x .head .journal .used) journal in
+        let n = length-records (x .head .journal .used) journal in
         let k = need-some c s in
         let i = min-le-right mostRecords (length journal / recordBytes) in
         let p = push-meaning (x .head) keys values journal (recordOf c s) (fit-call c s z) (omega arith) in
@@ -209,7 +209,7 @@ module _ {room : ℕ → Type 0} {ds : List Deed} {since : ℕ} {x : Cells} (m :
       let l : survived / recordBytes * recordBytes ≤ survived = w .there in
       let e : used - lost x survived ≡ survived / recordBytes = omega (arith, cut .early) in
       newest-held (survived / recordBytes) survived journal (x .journal) l (w .within) (omega (arith, cut .early, m .shaped .used)) (k .journal-held)
-      ∙ sym (drop-newest (lost x survived) used (x .journal) ∙ ap (λ (n : ℕ). newest n (x .journal)) e)
+      ∙ sym (drop-records (lost x survived) used (x .journal) ∙ ap (λ (n : ℕ). recordsIn n (x .journal)) e)
 
   -- a restart
   module _ (survived : ℕ) (cut : Cut x since survived) (keys values journal : List ℕ) (spelled : Bytes journal)

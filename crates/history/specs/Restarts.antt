@@ -22,7 +22,7 @@ use Rattle.rules.specs.Lists.{rising}
 use Rattle.rules.specs.Columns.{rowsOf}
 use Rattle.rules.specs.Recovery.{walk, survivors}
 use Rattle.rules.specs.Calls.{Store, withRoom}
-use Rattle.record.specs.Bytes.{Bytes, newest}
+use Rattle.record.specs.Bytes.{Bytes, recordsIn}
 use Rattle.record.specs.Laid.{laid, length-laid}
 use Rattle.answer.specs.Reply.{Reply, accepted, told, after}
 use Rattle.compact.specs.Compact.{compacted}
@@ -153,7 +153,7 @@ module _ {room : ℕ → Type 0} {ds : List Deed} {since : ℕ} {x : Cells} (r :
       let stayed = length (survivors left) in
       let d : stayed * recordBytes / recordBytes ≡ stayed = omega arith in
       let n : surviving (stayed * recordBytes) journal' ≡ survivors left =
-      ap (λ (i : ℕ). newest i journal') d ∙ ap (newest stayed) g ∙ recover-meaning (x .head) keys values journal survived bytes
+      ap (λ (i : ℕ). recordsIn i journal') d ∙ ap (recordsIn stayed) g ∙ recover-meaning (x .head) keys values journal survived bytes
       in
       let s : Store = record { low = x .head .low; floor = x .head .floor; base = []; records = left } in
       let again = recovered-again s in

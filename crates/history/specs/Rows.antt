@@ -18,19 +18,19 @@ use Rattle.history.specs.Cells.{Shows, Registers}
 use Rattle.history.specs.Listed.{value-present, history-lists}
 
 -- every key of rising rows is above the bound
-above : (m : ℕ) (rows : List Row) → rising m rows ≡ true → (i : ℕ) → i < length rows → m < getD (rowKeys rows) i 0
-above m [] h i l = absurd (omega arith)
-above m (r ∷ rows) h zero l = ltb-true m (r .key) (and-left (ltb m (r .key)) (rising (r .key) rows) h)
-above m (r ∷ rows) h (suc i) l =
+rises-above : (m : ℕ) (rows : List Row) → rising m rows ≡ true → (i : ℕ) → i < length rows → m < getD (rowKeys rows) i 0
+rises-above m [] h i l = absurd (omega arith)
+rises-above m (r ∷ rows) h zero l = ltb-true m (r .key) (and-left (ltb m (r .key)) (rising (r .key) rows) h)
+rises-above m (r ∷ rows) h (suc i) l =
     let a = ltb-true m (r .key) (and-left (ltb m (r .key)) (rising (r .key) rows) h) in
-    let b = above (r .key) rows (and-right (ltb m (r .key)) (rising (r .key) rows) h) i (omega arith) in
+    let b = rises-above (r .key) rows (and-right (ltb m (r .key)) (rising (r .key) rows) h) i (omega arith) in
     omega arith
 
 -- and below the keys behind it
 rise : (m : ℕ) (rows : List Row) → rising m rows ≡ true → (i j : ℕ) → i < j → j < length rows → getD (rowKeys rows) i 0 < getD (rowKeys rows) j 0
 rise m [] h i j k l = absurd (omega arith)
 rise m (r ∷ rows) h i zero k l = absurd (omega arith)
-rise m (r ∷ rows) h zero (suc j) k l = above (r .key) rows (and-right (ltb m (r .key)) (rising (r .key) rows) h) j (omega arith)
+rise m (r ∷ rows) h zero (suc j) k l = rises-above (r .key) rows (and-right (ltb m (r .key)) (rising (r .key) rows) h) j (omega arith)
 rise m (r ∷ rows) h (suc i) (suc j) k l = rise (r .key) rows (and-right (ltb m (r .key)) (rising (r .key) rows) h) i j (omega arith) (omega arith)
 
 -- the value of a row's key is the row's
@@ -40,7 +40,7 @@ row-value m [] h i l = absurd (omega arith)
 row-value m (r ∷ rows) h zero l = rw (eq-eqb (r .key) (r .key) refl)
 row-value m (r ∷ rows) h (suc i) l =
     let t = and-right (ltb m (r .key)) (rising (r .key) rows) h in
-    let a = above (r .key) rows t i (omega arith) in
+    let a = rises-above (r .key) rows t i (omega arith) in
     rw (ne-eqb (r .key) (getD (rowKeys rows) i 0) (λ e. omega arith)) (row-value (r .key) rows t i (omega arith))
 
 -- a key with a value has a row
@@ -66,7 +66,7 @@ shown-registers cs t listed contents p fits a listed' contents' s =
     in
     let value : (i : ℕ) → i < length rows → Present (getD contents' i 0) ≡ valueIn cs t (getD listed' i 0) =
     λ i b.
-    let q = above 0 rows (l .rises) i b in
+    let q = rises-above 0 rows (l .rises) i b in
     ap Present (cell i b)
     ∙ sym (row-value 0 rows (l .rises) i b)
     ∙ l .values (getD (rowKeys rows) i 0) (omega arith)
@@ -84,7 +84,7 @@ shown-registers cs t listed contents p fits a listed' contents' s =
             (q .0, q .1, key (q .0) (q .1) ∙ q .2);
         only =
             λ i b. (
-              omega (arith, key i b, above 0 rows (l .rises) i b),
+              omega (arith, key i b, rises-above 0 rows (l .rises) i b),
               sym (value-present cs t (getD listed' i 0)) ∙ sym (ap isPresent (value i b)),
             );
         value = value;

@@ -12,7 +12,7 @@ use Rattle.rules.specs.declared.Record.{Record}
 use Rattle.rules.specs.Bools.{split, or-left}
 use Rattle.rules.specs.Kinds.{recordBytes, isEnd}
 use Rattle.rules.specs.Transactions.{any, of}
-use Rattle.record.specs.Bytes.{recordAt, newest}
+use Rattle.record.specs.Bytes.{recordAt, recordsIn}
 
 -- a commit or an abort of transaction n
 abbrev pub ends : ℕ → Record → Bool
@@ -43,20 +43,20 @@ module _ (n : ℕ) (b : List ℕ) where
 
   -- a transaction has ended where an end stands from a place on, or before it
   ended-all : (count i used : ℕ) → i + count ≡ used
-      → any isEnd (of n (newest used b)) ≡ (endedFrom n b i count || any isEnd (of n (newest i b)))
+      → any isEnd (of n (recordsIn used b)) ≡ (endedFrom n b i count || any isEnd (of n (recordsIn i b)))
   ended-all zero i used e = let m : used ≡ i = omega arith in rw m
   ended-all (suc count) i used e =
       let r = recordAt b (i * recordBytes) in
       ended-all count (i + 1) used (omega arith)
       ∙ ap (λ (x : Bool). endedFrom n b (i + 1) count || x)
-      (ap (λ (k : ℕ). any isEnd (of n (newest k b))) (add-one i) ∙ ended-more r (newest i b))
-      ∙ or-swap (ends n r) (endedFrom n b (i + 1) count) (any isEnd (of n (newest i b)))
+      (ap (λ (k : ℕ). any isEnd (of n (recordsIn k b))) (add-one i) ∙ ended-more r (recordsIn i b))
+      ∙ or-swap (ends n r) (endedFrom n b (i + 1) count) (any isEnd (of n (recordsIn i b)))
 
   module _ (i used : ℕ) (l : i ≤ used) (behind : Bool) (d : behind ≡ endedFrom n b i (used - i)) where
-    pub ended-behind : behind ≡ true → any isEnd (of n (newest used b)) ≡ true
+    pub ended-behind : behind ≡ true → any isEnd (of n (recordsIn used b)) ≡ true
     ended-behind e =
-        ended-all (used - i) i used (omega arith) ∙ or-left (endedFrom n b i (used - i)) (any isEnd (of n (newest i b))) (sym d ∙ e)
+        ended-all (used - i) i used (omega arith) ∙ or-left (endedFrom n b i (used - i)) (any isEnd (of n (recordsIn i b))) (sym d ∙ e)
 
-    pub ended-before : behind ≡ false → any isEnd (of n (newest used b)) ≡ any isEnd (of n (newest i b))
+    pub ended-before : behind ≡ false → any isEnd (of n (recordsIn used b)) ≡ any isEnd (of n (recordsIn i b))
     ended-before e =
-        ended-all (used - i) i used (omega arith) ∙ ap (λ (x : Bool). x || any isEnd (of n (newest i b))) (sym d ∙ e)
+        ended-all (used - i) i used (omega arith) ∙ ap (λ (x : Bool). x || any isEnd (of n (recordsIn i b))) (sym d ∙ e)

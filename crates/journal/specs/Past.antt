@@ -13,7 +13,7 @@ use Rattle.rules.specs.Kinds.{isUpdate, isCommit, recordBytes}
 use Rattle.rules.specs.Transactions.{any, of}
 use Rattle.rules.specs.Times.{last}
 use Rattle.rules.specs.Checkpoints.{late}
-use Rattle.record.specs.Bytes.{recordAt, newest}
+use Rattle.record.specs.Bytes.{recordAt, recordsIn}
 use Rattle.rules.specs.Conflicts.{metOn, touched, clashes, conflict}
 
 -- every commit of some records is at or before l
@@ -44,7 +44,7 @@ low-last low (r ∷ rs) =
     (λ e. rw e (low-last low rs))
 
 -- and so is each commit
-pub past-at : (l i used : ℕ) (j : List ℕ) → Past l (newest used j) → i < used → isCommit (recordAt j (i * recordBytes)) ≡ true
+pub past-at : (l i used : ℕ) (j : List ℕ) → Past l (recordsIn used j) → i < used → isCommit (recordAt j (i * recordBytes)) ≡ true
     → recordAt j (i * recordBytes) .time ≤ l
 past-at l i zero j p h e = absurd (omega arith)
 past-at l i (suc used) j (more r rs c p) h e =

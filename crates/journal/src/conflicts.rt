@@ -6,7 +6,7 @@ ghost use Rattle.rules.specs.Limits.{mostRecords};
 ghost use Rattle.rules.specs.Kinds.{recordBytes};
 ghost use Rattle.rules.specs.Transactions.{any, of, keysWritten, mayWrite};
 ghost use Rattle.rules.specs.Conflicts.{conflict as conflictOf};
-ghost use Rattle.record.specs.Bytes.{newest};
+ghost use Rattle.record.specs.Bytes.{recordsIn};
 ghost use Rattle.journal.specs.Past.{Past};
 ghost use Rattle.journal.specs.Gathered.{newKey, metIn, lates, Gathered};
 use crate::Journal;
@@ -29,7 +29,7 @@ fn is_new_key(r: Record, n: u32, keys: &[u32], count: usize) -> bool
 // The distinct keys that a transaction wrote, into a column; how many they are.
 fn keys_written(journal: &[u8], used: usize, n: u32, keys: &mut [u32]) -> usize
     requires { ⌜ (used * recordBytes ≤ length (now journal)) × (used ≤ length (now keys)) ⌝ }
-    ensures { λ r. ⌜ Gathered (keysWritten (of n (newest used (now (journal .entry))))) used r (now (keys .entry)) (now (keys .exit)) ⌝ }
+    ensures { λ r. ⌜ Gathered (keysWritten (of n (recordsIn used (now (journal .entry))))) used r (now (keys .entry)) (now (keys .exit)) ⌝ }
 {
     let mut count = 0;
     let mut i = 0;
@@ -47,7 +47,7 @@ fn keys_written(journal: &[u8], used: usize, n: u32, keys: &mut [u32]) -> usize
 // Whether a transaction may write a key: it has written it, or fewer than 32 keys.
 pub fn may_write(journal: &[u8], used: usize, n: u32, k: u32) -> bool
     requires { ⌜ (used ≤ mostRecords) × (used * recordBytes ≤ length (now journal)) ⌝ }
-    ensures { λ r. ⌜ r ≡ mayWrite n k (newest used (now (journal .entry))) ⌝ }
+    ensures { λ r. ⌜ r ≡ mayWrite n k (recordsIn used (now (journal .entry))) ⌝ }
 {
     let mut keys = [0u32; Journal::RECORDS];
     let count = keys_written(journal, used, n, &mut keys);
@@ -60,7 +60,7 @@ pub fn may_write(journal: &[u8], used: usize, n: u32, k: u32) -> bool
 // The transactions that committed later than a time, into a column in the order of these commits; how many commits there are.
 pub fn late_numbers(journal: &[u8], used: usize, s: u64, numbers: &mut [u32]) -> usize
     requires { ⌜ (used * recordBytes ≤ length (now journal)) × (used ≤ length (now numbers)) ⌝ }
-    ensures { λ r. ⌜ Gathered (lates s (newest used (now (journal .entry)))) used r (now (numbers .entry)) (now (numbers .exit)) ⌝ }
+    ensures { λ r. ⌜ Gathered (lates s (recordsIn used (now (journal .entry)))) used r (now (numbers .entry)) (now (numbers .exit)) ⌝ }
 {
     let mut count = 0;
     let mut i = 0;
@@ -97,7 +97,7 @@ fn any_met(
     late: usize,
 ) -> bool
     requires { ⌜ used * recordBytes ≤ length (now journal) ⌝ }
-    ensures { λ b. ⌜ b ≡ any (metIn (take written (now (keys .entry))) (take late (now (numbers .entry)))) (newest used (now (journal .entry))) ⌝ }
+    ensures { λ b. ⌜ b ≡ any (metIn (take written (now (keys .entry))) (take late (now (numbers .entry)))) (recordsIn used (now (journal .entry))) ⌝ }
 {
     let mut found = false;
     let mut i = 0;
@@ -113,7 +113,7 @@ fn any_met(
 // Whether somebody who committed later than a time wrote a key that the transaction has written.
 fn conflict_since(journal: &[u8], used: usize, n: u32, s: u64) -> bool
     requires { ⌜ (used ≤ mostRecords) × (used * recordBytes ≤ length (now journal)) ⌝ }
-    ensures { λ b. ⌜ b ≡ conflictOf n s (newest used (now (journal .entry))) ⌝ }
+    ensures { λ b. ⌜ b ≡ conflictOf n s (recordsIn used (now (journal .entry))) ⌝ }
 {
     let mut keys = [0u32; Journal::RECORDS];
     let written = keys_written(journal, used, n, &mut keys);
@@ -125,8 +125,8 @@ fn conflict_since(journal: &[u8], used: usize, n: u32, s: u64) -> bool
 // Whether a commit of the transaction conflicts: somebody who committed later than its snapshot wrote a key that it has written. No commit is later
 // than last, so that a snapshot at last is clear at once.
 pub fn conflict(journal: &[u8], used: usize, n: u32, snapshot: u64, last: u64) -> bool
-    requires { ⌜ (used ≤ mostRecords) × (used * recordBytes ≤ length (now journal)) × Past last (newest used (now journal)) ⌝ }
-    ensures { λ b. ⌜ b ≡ conflictOf n snapshot (newest used (now (journal .entry))) ⌝ }
+    requires { ⌜ (used ≤ mostRecords) × (used * recordBytes ≤ length (now journal)) × Past last (recordsIn used (now journal)) ⌝ }
+    ensures { λ b. ⌜ b ≡ conflictOf n snapshot (recordsIn used (now (journal .entry))) ⌝ }
 {
     if last <= snapshot {
         return false;

@@ -8,7 +8,7 @@ ghost use Rattle.rules.specs.Kinds.{recordBytes, isCommit};
 ghost use Rattle.rules.specs.Times.{lastStep, last as lastIn, next as nextIn};
 ghost use Rattle.rules.specs.Transactions.{any};
 ghost use Rattle.rules.specs.Checkpoints.{late};
-ghost use Rattle.record.specs.Bytes.{newest};
+ghost use Rattle.record.specs.Bytes.{recordsIn};
 ghost use Rattle.journal.specs.Walks.{Above};
 use crate::Journal;
 use rules::Record;
@@ -29,7 +29,7 @@ fn last_step(r: Record, best: u64) -> u64
 // The greatest of low and all commit times, record by record.
 fn greatest(journal: &[u8], used: usize, low: u64) -> u64
     requires { ⌜ used * recordBytes ≤ length (now journal) ⌝ }
-    ensures { λ r. ⌜ r ≡ lastIn low (newest used (now (journal .entry))) ⌝ }
+    ensures { λ r. ⌜ r ≡ lastIn low (recordsIn used (now (journal .entry))) ⌝ }
 {
     let mut best = low;
     let mut i = 0;
@@ -43,7 +43,7 @@ fn greatest(journal: &[u8], used: usize, low: u64) -> u64
 // The time of the newest commit, at least low.
 fn newest_time(journal: &[u8], used: usize, low: u64) -> u64
     requires { ⌜ used * recordBytes ≤ length (now journal) ⌝ }
-    ensures { λ t. ⌜ (low ≤ t) × (t ≤ lastIn low (newest used (now (journal .entry)))) ⌝ }
+    ensures { λ t. ⌜ (low ≤ t) × (t ≤ lastIn low (recordsIn used (now (journal .entry)))) ⌝ }
 {
     let mut i = used;
     while i > 0 {
@@ -69,7 +69,7 @@ pub(crate) fn is_late(r: Record, s: u64) -> bool
 // Whether some commit is later than a time.
 fn is_passed(journal: &[u8], used: usize, t: u64) -> bool
     requires { ⌜ used * recordBytes ≤ length (now journal) ⌝ }
-    ensures { λ b. ⌜ b ≡ any (late t) (newest used (now (journal .entry))) ⌝ }
+    ensures { λ b. ⌜ b ≡ any (late t) (recordsIn used (now (journal .entry))) ⌝ }
 {
     let mut found = false;
     let mut i = 0;
@@ -86,7 +86,7 @@ fn is_passed(journal: &[u8], used: usize, t: u64) -> bool
 // other is later.
 pub fn last(journal: &[u8], used: usize, low: u64) -> u64
     requires { ⌜ used * recordBytes ≤ length (now journal) ⌝ }
-    ensures { λ r. ⌜ r ≡ lastIn low (newest used (now (journal .entry))) ⌝ }
+    ensures { λ r. ⌜ r ≡ lastIn low (recordsIn used (now (journal .entry))) ⌝ }
 {
     let t = newest_time(journal, used, low);
     if is_passed(journal, used, t) {
@@ -108,7 +108,7 @@ fn reaches(r: Record, t: u64) -> bool
 // Whether a time lies above last. The walk goes down from the newest record, since the latest commit tells most times.
 pub fn is_future(journal: &[u8], used: usize, low: u64, t: u64) -> bool
     requires { ⌜ used * recordBytes ≤ length (now journal) ⌝ }
-    ensures { λ b. ⌜ b ≡ ltb (lastIn low (newest used (now (journal .entry)))) t ⌝ }
+    ensures { λ b. ⌜ b ≡ ltb (lastIn low (recordsIn used (now (journal .entry)))) t ⌝ }
 {
     let mut i = used;
     while i > 0 {
@@ -145,7 +145,7 @@ fn above_step(r: Record, best: u64) -> u64
 // The greater of floor and one more than the highest number in a begin, but never above 4,294,967,295.
 pub fn next(journal: &[u8], used: usize, floor: u32) -> u32
     requires { ⌜ used * recordBytes ≤ length (now journal) ⌝ }
-    ensures { λ r. ⌜ r ≡ nextIn floor (newest used (now (journal .entry))) ⌝ }
+    ensures { λ r. ⌜ r ≡ nextIn floor (recordsIn used (now (journal .entry))) ⌝ }
 {
     let mut best = floor as u64;
     let mut i = 0;

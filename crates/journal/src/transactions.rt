@@ -7,7 +7,7 @@ ghost use Rattle.rules.specs.Limits.{mostRecords};
 ghost use Rattle.rules.specs.Kinds.{recordBytes};
 ghost use Rattle.rules.specs.Transactions.{of, opens, runs as runsIn, running};
 ghost use Rattle.rules.specs.Checkpoints.{heldBy, held as heldIn};
-ghost use Rattle.record.specs.Bytes.{newest};
+ghost use Rattle.record.specs.Bytes.{recordsIn};
 ghost use Rattle.journal.specs.Walks.{traced, traceOf, endedBy, Counted};
 ghost use Rattle.journal.specs.Ends.{ends as endsIn, endedFrom, top as topIn};
 ghost use Rattle.journal.specs.Gathered.{Gathered};
@@ -71,7 +71,7 @@ impl Trace {
 // Whether a transaction has begun and ended, and the time of its first begin.
 pub fn follow(journal: &[u8], used: usize, n: u32) -> Trace
     requires { ⌜ used * recordBytes ≤ length (now journal) ⌝ }
-    ensures { λ r. ⌜ r ≡ traceOf (of n (newest used (now (journal .entry)))) ⌝ }
+    ensures { λ r. ⌜ r ≡ traceOf (of n (recordsIn used (now (journal .entry)))) ⌝ }
 {
     let mut trace = Trace {
         begun: false,
@@ -89,7 +89,7 @@ pub fn follow(journal: &[u8], used: usize, n: u32) -> Trace
 // A transaction runs if the journal has its begin and neither its commit nor its abort.
 pub fn runs(journal: &[u8], used: usize, n: u32) -> bool
     requires { ⌜ used * recordBytes ≤ length (now journal) ⌝ }
-    ensures { λ r. ⌜ r ≡ runsIn n (newest used (now (journal .entry))) ⌝ }
+    ensures { λ r. ⌜ r ≡ runsIn n (recordsIn used (now (journal .entry))) ⌝ }
 {
     let trace = follow(journal, used, n);
     trace.runs()
@@ -127,8 +127,8 @@ fn is_ended(journal: &[u8], from: usize, to: usize, n: u32) -> bool
 // Whether the record at a place is the first begin of a transaction that runs. Every number that stands before it lies below `top`, so that a
 // number from `top` on has no record there. The numbers that calls give rise: only a damaged journal has the records before a begin walked.
 fn opens_at(journal: &[u8], used: usize, i: usize, top: u64, r: Record) -> bool
-    requires { ⌜ (used * recordBytes ≤ length (now journal)) × (i ≤ used) × (top ≡ topIn (newest i (now journal))) ⌝ }
-    ensures { λ b. ⌜ b ≡ opens (newest used (now (journal .entry))) r (newest i (now (journal .entry))) ⌝ }
+    requires { ⌜ (used * recordBytes ≤ length (now journal)) × (i ≤ used) × (top ≡ topIn (recordsIn i (now journal))) ⌝ }
+    ensures { λ b. ⌜ b ≡ opens (recordsIn used (now (journal .entry))) r (recordsIn i (now (journal .entry))) ⌝ }
 {
     if r.kind != Record::BEGIN {
         return false;
@@ -149,7 +149,7 @@ fn opens_at(journal: &[u8], used: usize, i: usize, top: u64, r: Record) -> bool
 // The running transactions, into a column in the order of their begins; how many they are.
 pub fn running_numbers(journal: &[u8], used: usize, numbers: &mut [u32]) -> usize
     requires { ⌜ (used * recordBytes ≤ length (now journal)) × (used ≤ length (now numbers)) ⌝ }
-    ensures { λ r. ⌜ Gathered (running (newest used (now (journal .entry)))) used r (now (numbers .entry)) (now (numbers .exit)) ⌝ }
+    ensures { λ r. ⌜ Gathered (running (recordsIn used (now (journal .entry)))) used r (now (numbers .entry)) (now (numbers .exit)) ⌝ }
 {
     let mut count = 0;
     let mut top = 0;
@@ -169,7 +169,7 @@ pub fn running_numbers(journal: &[u8], used: usize, numbers: &mut [u32]) -> usiz
 // How many transactions run.
 pub fn count_running(journal: &[u8], used: usize) -> usize
     requires { ⌜ (used ≤ mostRecords) × (used * recordBytes ≤ length (now journal)) ⌝ }
-    ensures { λ r. ⌜ Counted (newest used (now (journal .entry))) used r ⌝ }
+    ensures { λ r. ⌜ Counted (recordsIn used (now (journal .entry))) used r ⌝ }
 {
     let mut numbers = [0u32; Journal::RECORDS];
     running_numbers(journal, used, &mut numbers)
@@ -179,7 +179,7 @@ pub fn count_running(journal: &[u8], used: usize) -> usize
 // behind it.
 fn is_held(journal: &[u8], used: usize, i: usize, t: u64, r: Record) -> bool
     requires { ⌜ (used * recordBytes ≤ length (now journal)) × (i ≤ used) ⌝ }
-    ensures { λ b. ⌜ b ≡ heldBy t (newest used (now (journal .entry))) r ⌝ }
+    ensures { λ b. ⌜ b ≡ heldBy t (recordsIn used (now (journal .entry))) r ⌝ }
 {
     if r.kind != Record::BEGIN {
         return false;
@@ -199,7 +199,7 @@ fn is_held(journal: &[u8], used: usize, i: usize, t: u64, r: Record) -> bool
 // Whether a time lies above a running snapshot.
 pub fn held(journal: &[u8], used: usize, t: u64) -> bool
     requires { ⌜ used * recordBytes ≤ length (now journal) ⌝ }
-    ensures { λ b. ⌜ b ≡ heldIn t (newest used (now (journal .entry))) ⌝ }
+    ensures { λ b. ⌜ b ≡ heldIn t (recordsIn used (now (journal .entry))) ⌝ }
 {
     let mut found = false;
     let mut i = 0;

@@ -7,9 +7,9 @@ ghost use Rattle.rules.specs.declared.Value.the-variants.{Absent};
 ghost use Rattle.rules.specs.Lists.{listAt};
 ghost use Rattle.rules.specs.Columns.{firstRows};
 ghost use Rattle.rules.specs.Calls.{checkpointRefusal};
-ghost use Rattle.record.specs.Bytes.{newest};
+ghost use Rattle.record.specs.Bytes.{recordsIn};
 ghost use Rattle.answer.specs.Reply.{ofDone, told, refused as refusedBy};
-ghost use Rattle.values.specs.Pass.{Lent};
+ghost use Rattle.values.specs.Pass.{Inside};
 ghost use Rattle.listing.specs.Settled.{Cells};
 ghost use Rattle.journal_store.specs.Shape.{Shaped, meaning, rowRoom};
 ghost use Rattle.journal_store.specs.Contracts.{Checkpointed, Settled};
@@ -72,8 +72,8 @@ fn settle_by(
     listed: &mut [u32],
     contents: &mut [u32],
 ) -> usize
-    requires { ⌜ Lent (now keys) (now values) rows (now journal) used × Cells rows used (now listed) (now contents) × (length (now keys) ≡ length (now values)) ⌝ }
-    ensures { λ n. ⌜ Settled (rowRoom (length (now (keys .entry)))) (listAt (firstRows rows (now (keys .entry)) (now (values .entry))) (newest used (now (journal .entry))) t) (now (keys .entry)) (now (values .entry)) n (now (keys .exit)) (now (values .exit)) ⌝ }
+    requires { ⌜ Inside (now keys) (now values) rows (now journal) used × Cells rows used (now listed) (now contents) × (length (now keys) ≡ length (now values)) ⌝ }
+    ensures { λ n. ⌜ Settled (rowRoom (length (now (keys .entry)))) (listAt (firstRows rows (now (keys .entry)) (now (values .entry))) (recordsIn used (now (journal .entry))) t) (now (keys .entry)) (now (values .entry)) n (now (keys .exit)) (now (values .exit)) ⌝ }
 {
     let count = listing::listing(keys, values, rows, journal, used, t, listed, contents);
     if row_room(keys.len()) < count {
@@ -93,8 +93,8 @@ fn settle(
     used: usize,
     t: u64,
 ) -> usize
-    requires { ⌜ Lent (now keys) (now values) rows (now journal) used × (rows ≤ mostRows) × (length (now keys) ≡ length (now values)) ⌝ }
-    ensures { λ n. ⌜ Settled (rowRoom (length (now (keys .entry)))) (listAt (firstRows rows (now (keys .entry)) (now (values .entry))) (newest used (now (journal .entry))) t) (now (keys .entry)) (now (values .entry)) n (now (keys .exit)) (now (values .exit)) ⌝ }
+    requires { ⌜ Inside (now keys) (now values) rows (now journal) used × (rows ≤ mostRows) × (length (now keys) ≡ length (now values)) ⌝ }
+    ensures { λ n. ⌜ Settled (rowRoom (length (now (keys .entry)))) (listAt (firstRows rows (now (keys .entry)) (now (values .entry))) (recordsIn used (now (journal .entry))) t) (now (keys .entry)) (now (values .entry)) n (now (keys .exit)) (now (values .exit)) ⌝ }
 {
     if rows + used < FEW {
         let mut listed = [0u32; FEW];

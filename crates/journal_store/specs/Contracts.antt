@@ -18,7 +18,7 @@ use Rattle.rules.specs.declared.Walked.{Walked}
 use Rattle.rules.specs.declared.Walked.the-variants.{Whole, BadAt}
 use Rattle.rules.specs.Times.{next}
 use Rattle.rules.specs.Recovery.{walk, survivors}
-use Rattle.record.specs.Bytes.{appended, newest}
+use Rattle.record.specs.Bytes.{appended, recordsIn}
 use Rattle.answer.specs.Reply.{Reply, told, after, accepted}
 use Rattle.compact.specs.Compact.{compacted}
 use Rattle.journal_store.specs.declared.Head.{Head}
@@ -139,7 +139,7 @@ isRecoverable h keys values bytes survived =
 
 -- the whole records among the surviving bytes, the newest first: a tail of fewer than 24 bytes is ignored
 abbrev pub surviving : ℕ → List ℕ → List Record
-surviving survived j = newest (survived / recordBytes) j
+surviving survived j = recordsIn (survived / recordBytes) j
 
 -- accepted, or refusal 13 with the place of the first record that fails
 abbrev pub walkedReply : Walked → Reply

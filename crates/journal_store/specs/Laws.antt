@@ -23,7 +23,7 @@ use Rattle.rules.specs.declared.Walked.{Walked}
 use Rattle.rules.specs.declared.Walked.the-variants.{Whole, BadAt}
 use Rattle.rules.specs.Recovery.{walk, survivors}
 use Rattle.record.specs.Bytes.{appended}
-use Rattle.record.specs.Laws.{length-newest}
+use Rattle.record.specs.Laws.{length-records}
 use Rattle.answer.specs.declared.Refusal.the-variants.{BadShape, NoRoom}
 use Rattle.answer.specs.Reply.{Reply, refused, told, accepted, numberOf, placeOf}
 use Rattle.answer.specs.Laws.{after-refused, refused-some}
@@ -67,7 +67,7 @@ module _ (c : Call) (h : Head) (keys values j : List ℕ) where
     has-room e =
         let z : number c h keys values j ≡ 0 = eqb-true (number c h keys values j) 0 (sym accepts ∙ e) in
         let l = room-left (roomOf (length j)) c (meaning h keys values j) (sym counted ∙ z) in
-        let n = length-newest (h .journal .used) j in
+        let n = length-records (h .journal .used) j in
         let k = need-some c (meaning h keys values j) in
         (omega (arith, min-le-left mostRecords (length j / recordBytes)), omega (arith, min-le-right mostRecords (length j / recordBytes)))
 

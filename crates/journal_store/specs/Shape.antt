@@ -11,7 +11,7 @@ use Rattle.rules.specs.Bools.{and-left, and-right}
 use Rattle.rules.specs.Kinds.{recordBytes}
 use Rattle.rules.specs.Columns.{firstRows}
 use Rattle.rules.specs.Calls.{Store}
-use Rattle.record.specs.Bytes.{newest}
+use Rattle.record.specs.Bytes.{recordsIn}
 use Rattle.journal.specs.Kinds.{emptyBase, emptyJournal}
 use Rattle.journal_store.specs.declared.Head.{Head}
 
@@ -44,7 +44,7 @@ meaning h keys values journal =
       low = h .low;
       floor = h .floor;
       base = firstRows (h .base .rows) keys values;
-      records = newest (h .journal .used) journal;
+      records = recordsIn (h .journal .used) journal;
     }
 
 -- what a good shape says

@@ -18,7 +18,7 @@ use Rattle.rules.specs.Recovery.{done, survivors}
 use Rattle.rules.specs.Times.{next}
 use Rattle.rules.specs.Calls.{Call, nextOf, recordOf, answer, checkpointRefusal, checkpointAnswer, listOf}
 use Rattle.record.specs.Bytes.{appended}
-use Rattle.record.specs.Laws.{length-newest, length-appended}
+use Rattle.record.specs.Laws.{length-records, length-appended}
 use Rattle.compact.specs.Compact.{compacted}
 use Rattle.compact.specs.Laws.{length-compacted, length-kept, length-only}
 use Rattle.journal_store.specs.declared.Head.{Head}
@@ -47,7 +47,7 @@ module _ (h : Head) (keys values j : List ℕ) (w : Shaped h (length keys) (leng
   call-shaped c e =
       let s = meaning h keys values j in
       let l = room-left (roomOf (length j)) c s e in
-      let n = length-newest (h .journal .used) j in
+      let n = length-records (h .journal .used) j in
       let k = need-some c s in
       let a = min-le-left mostRecords (length j / recordBytes) in
       let b = min-le-right mostRecords (length j / recordBytes) in
@@ -78,7 +78,7 @@ module _ (h : Head) (keys values j : List ℕ) (w : Shaped h (length keys) (leng
         (length (compacted (kept t (meaning h keys values j .records)) (h .journal .used * recordBytes) j))
     checkpoint-shaped some =
         let rs = meaning h keys values j .records in
-        let n = length-newest (h .journal .used) j in
+        let n = length-records (h .journal .used) j in
         let m = length-kept t rs rs in
         let p = w .paired in
         rw (
@@ -105,7 +105,7 @@ pub recover-shaped : (h : Head) (keys values j : List ℕ) (survived : ℕ) → 
     → Shaped (recoveredHead h (surviving survived j)) (length keys) (length values) (length (compacted (survivors (surviving survived j)) survived j))
 recover-shaped h keys values j survived limit rows paired w some =
     let rs = surviving survived j in
-    let n = length-newest (survived / recordBytes) j in
+    let n = length-records (survived / recordBytes) j in
     let m = length-only (done rs) rs in
     rw (length-compacted (survivors rs) survived j (omega (arith, w .there)) (w .within))
     (record {

@@ -18,10 +18,10 @@ use Rattle.rules.specs.Checkpoints.{kept}
 use Rattle.rules.specs.Recovery.{done, survivors}
 use Rattle.rules.specs.Calls.{Store, Call, Begin, Update, Abort, Commit, recordOf, push, checkpointed, listOf}
 use Rattle.record.specs.Bytes.{Bytes, appended}
-use Rattle.record.specs.Laws.{Fit, newest-appended}
-use Rattle.record.specs.Laid.{fit-newest}
+use Rattle.record.specs.Laws.{Fit, records-appended}
+use Rattle.record.specs.Laid.{fit-records}
 use Rattle.compact.specs.Compact.{compacted}
-use Rattle.compact.specs.Laws.{newest-compacted, fit-kept, fit-only}
+use Rattle.compact.specs.Laws.{records-compacted, fit-kept, fit-only}
 use Rattle.journal_store.specs.declared.Head.{Head}
 use Rattle.journal_store.specs.Shape.{grown, meaning}
 use Rattle.journal_store.specs.Contracts.{checkpointHead, recoveredHead, surviving}
@@ -67,7 +67,7 @@ fit-call (Commit n t) s z =
 -- one record more in the cells is one record more in the meaning
 pub push-meaning : (h : Head) (keys values j : List ℕ) (r : Record) → Fit r → h .journal .used * recordBytes + recordBytes ≤ length j
     → meaning (grown h) keys values (appended j (h .journal .used) r) ≡ push r (meaning h keys values j)
-push-meaning h keys values j r f l = rw (add-one, newest-appended j (h .journal .used) r f l)
+push-meaning h keys values j r f l = rw (add-one, records-appended j (h .journal .used) r f l)
 
 -- the cells that an accepted checkpoint leaves mean the checkpointed store
 pub checkpoint-meaning : (t : ℕ) (h : Head) (keys values j : List ℕ) → t < 2 ^ 64 → Bytes j
@@ -81,8 +81,8 @@ checkpoint-meaning t h keys values j small bytes =
     let rows = listOf t s in
     rw (
       front-rows rows (drop (length rows) keys) (drop (length rows) values),
-      newest-compacted (kept t (s .records)) (h .journal .used * recordBytes) j
-          (fit-kept t (s .records) (s .records) small (fit-newest (h .journal .used) j bytes)),
+      records-compacted (kept t (s .records)) (h .journal .used * recordBytes) j
+          (fit-kept t (s .records) (s .records) small (fit-records (h .journal .used) j bytes)),
     )
 
 -- the cells that an accepted recovery leaves mean the store with the surviving records of transactions that committed
@@ -90,5 +90,5 @@ pub recover-meaning : (h : Head) (keys values j : List ℕ) (survived : ℕ) →
     → meaning (recoveredHead h (surviving survived j)) keys values (compacted (survivors (surviving survived j)) survived j) .records
     ≡ survivors (surviving survived j)
 recover-meaning h keys values j survived bytes =
-    newest-compacted (survivors (surviving survived j)) survived j
-    (fit-only (done (surviving survived j)) (surviving survived j) (fit-newest (survived / recordBytes) j bytes))
+    records-compacted (survivors (surviving survived j)) survived j
+    (fit-only (done (surviving survived j)) (surviving survived j) (fit-records (survived / recordBytes) j bytes))

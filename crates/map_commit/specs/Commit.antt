@@ -18,28 +18,28 @@ use Rattle.answer.specs.Laws.{refused-some, after-refused}
 use Rattle.slot.specs.Slots.{slotOf}
 use Rattle.slot.specs.Places.{Note}
 use Rattle.versions.specs.Versions.{Columns}
-use Rattle.versions.specs.Columns.{Lent}
+use Rattle.versions.specs.Columns.{Spans}
 use Rattle.map_store.specs.declared.MapHead.{MapHead}
 use Rattle.map_store.specs.declared.Outcome.{Outcome}
 use Rattle.map_store.specs.Meaning.{mapAnswer}
 use Rattle.map_store.specs.Shape.{lengths, isShaped, Shaped, roomOf, meaning}
-use Rattle.map_store.specs.Heads.{committedHead, rowsIn, written}
+use Rattle.map_store.specs.Heads.{committedHead, rowsIn, stamped}
 use Rattle.map_store.specs.Contracts.{number, decided, Committed}
 use Rattle.map_store.specs.Laws.{number-bad, number-good, changed, bad-shape, answered}
 
 -- the columns with some rows written behind their used ones at one commit time, and how many are used then
 pub record Stamped (t used : ℕ) (rows : List Note) (cs cs' : Columns) (r : ℕ) : Type 0 where
   pub count : r ≡ used + length rows
-  pub cells : cs' ≡ written used t rows cs
+  pub cells : cs' ≡ stamped used t rows cs
 
 -- what a commit that is accepted or not makes of the head and the columns
 pub record Put (n t : ℕ) (h : MapHead) (cs : Columns) (accepted : Bool) (head : MapHead) (cs' : Columns) : Type 0 where
   pub headed : head ≡ cond accepted (committedHead t (slotOf (h .slots) n) h) h
-  pub cells : cs' ≡ cond accepted (written (h .used) t (rowsIn (h .slots) (slotOf (h .slots) n)) cs) cs
+  pub cells : cs' ≡ cond accepted (stamped (h .used) t (rowsIn (h .slots) (slotOf (h .slots) n)) cs) cs
 
 -- rows for which there is room behind the used ones are lent
 pub room-lent : (h : MapHead) (cs : Columns) → Shaped h (lengths cs) → (rows : ℕ) → h .used + rows ≤ roomOf (length (cs .keys))
-    → Lent (h .used + rows) cs
+    → Spans (h .used + rows) cs
 room-lent h cs w rows l =
     let r = min-le-right mostVersions (length (cs .keys)) in
     record { keys = omega arith; times = omega (arith, w .times); values = omega (arith, w .values) }

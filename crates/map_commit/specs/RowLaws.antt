@@ -14,7 +14,7 @@ use Rattle.column.specs.Column.{firstRow}
 use Rattle.slot.specs.declared.Slot.{Slot}
 use Rattle.slot.specs.Slots.{met}
 use Rattle.slot.specs.Formed.{Rowed}
-use Rattle.slot.specs.Places.{Note, hasKey, rowsOf}
+use Rattle.slot.specs.Places.{Note, hasKey, notesOf}
 use Rattle.slot.specs.RowLaws.{has-row}
 use Rattle.versions.specs.declared.Version.{Version}
 use Rattle.versions.specs.Versions.{Columns, later}
@@ -27,24 +27,24 @@ abbrev upTo : Slot → ℕ → Slot
 upTo s i = record { number = s .number; snapshot = s .snapshot; count = i; keys = s .keys; values = s .values }
 
 -- a key has one of the first i rows exactly if it is found among them
-pub has-before : (s : Slot) → Rowed s → (i k : ℕ) → i < s .count → hasKey k (rowsOf (s .keys) (s .values) i) ≡ met (firstRow k (take i (s .keys)))
+pub has-before : (s : Slot) → Rowed s → (i k : ℕ) → i < s .count → hasKey k (notesOf (s .keys) (s .values) i) ≡ met (firstRow k (take i (s .keys)))
 has-before s w i k l =
     has-row (upTo s i) (record { keys = w .keys; values = w .values; count = omega (arith, w .count) }) k
 
 module _ (ks vs : List ℕ) where
   -- row i is the first that has its key
   abbrev pub isFirst : ℕ → Bool
-  isFirst i = not (hasKey (getD ks i 0) (rowsOf ks vs i))
+  isFirst i = not (hasKey (getD ks i 0) (notesOf ks vs i))
 
   pub first-more : (i : ℕ) → isFirst i ≡ true
-      → firsts (rowsOf ks vs (i + 1)) ≡ record { key = getD ks i 0; value = getD vs i 0 } ∷ firsts (rowsOf ks vs i)
-  first-more i e = rw (add-one, not-true (hasKey (getD ks i 0) (rowsOf ks vs i)) e)
+      → firsts (notesOf ks vs (i + 1)) ≡ record { key = getD ks i 0; value = getD vs i 0 } ∷ firsts (notesOf ks vs i)
+  first-more i e = rw (add-one, not-true (hasKey (getD ks i 0) (notesOf ks vs i)) e)
 
-  pub first-same : (i : ℕ) → isFirst i ≡ false → firsts (rowsOf ks vs (i + 1)) ≡ firsts (rowsOf ks vs i)
-  first-same i e = rw (add-one, not-false (hasKey (getD ks i 0) (rowsOf ks vs i)) e)
+  pub first-same : (i : ℕ) → isFirst i ≡ false → firsts (notesOf ks vs (i + 1)) ≡ firsts (notesOf ks vs i)
+  first-same i e = rw (add-one, not-false (hasKey (getD ks i 0) (notesOf ks vs i)) e)
 
   -- no fewer rows count among more
-  pub firsts-among : (i n : ℕ) → i ≤ n → length (firsts (rowsOf ks vs i)) ≤ length (firsts (rowsOf ks vs n))
+  pub firsts-among : (i n : ℕ) → i ≤ n → length (firsts (notesOf ks vs i)) ≤ length (firsts (notesOf ks vs n))
   firsts-among i zero l = let z : i ≡ 0 = omega arith in rw z (omega arith)
   firsts-among i (suc n) l =
       split (eqb i (suc n))
@@ -52,25 +52,25 @@ module _ (ks vs : List ℕ) where
       (λ e.
       let ne = eqb-false i (suc n) e in
       let m = firsts-among i n (omega arith) in
-      split (hasKey (getD ks n 0) (rowsOf ks vs n)) (λ t. rw t m) (λ t. rw t (omega arith)))
+      split (hasKey (getD ks n 0) (notesOf ks vs n)) (λ t. rw t m) (λ t. rw t (omega arith)))
 
   module _ (s : ℕ) (versions : List Version) where
-    pub clash-here : (i : ℕ) → later s (getD ks i 0) versions ≡ true → clash s (rowsOf ks vs (i + 1)) versions ≡ true
-    clash-here i e = rw add-one (or-left (later s (getD ks i 0) versions) (clash s (rowsOf ks vs i) versions) e)
+    pub clash-here : (i : ℕ) → later s (getD ks i 0) versions ≡ true → clash s (notesOf ks vs (i + 1)) versions ≡ true
+    clash-here i e = rw add-one (or-left (later s (getD ks i 0) versions) (clash s (notesOf ks vs i) versions) e)
 
-    pub clash-none : (i : ℕ) → later s (getD ks i 0) versions ≡ false → clash s (rowsOf ks vs i) versions ≡ false
-        → clash s (rowsOf ks vs (i + 1)) versions ≡ false
+    pub clash-none : (i : ℕ) → later s (getD ks i 0) versions ≡ false → clash s (notesOf ks vs i) versions ≡ false
+        → clash s (notesOf ks vs (i + 1)) versions ≡ false
     clash-none i e f = rw (add-one, e) f
 
     -- what clashes among the first rows clashes among more
-    pub clash-among : (i n : ℕ) → i ≤ n → clash s (rowsOf ks vs i) versions ≡ true → clash s (rowsOf ks vs n) versions ≡ true
+    pub clash-among : (i n : ℕ) → i ≤ n → clash s (notesOf ks vs i) versions ≡ true → clash s (notesOf ks vs n) versions ≡ true
     clash-among i zero l e = let z : i ≡ 0 = omega arith in rw z at e
     clash-among i (suc n) l e =
         split (eqb i (suc n))
         (λ f. rw (eqb-true i (suc n) f) at e)
         (λ f.
         let ne = eqb-false i (suc n) f in
-        or-right (later s (getD ks n 0) versions) (clash s (rowsOf ks vs n) versions) (clash-among i n (omega arith) e))
+        or-right (later s (getD ks n 0) versions) (clash s (notesOf ks vs n) versions) (clash-among i n (omega arith) e))
 
 -- no more rows count than there are
 pub length-firsts : (rows : List Note) → length (firsts rows) ≤ length rows

@@ -5,9 +5,9 @@ ghost use Prim.Native.Nat.{_+_, _≤_, _<_};
 ghost use lib.ListN.{length, getD};
 ghost use Rattle.answer.specs.Reply.{ofDone};
 ghost use Rattle.slot.specs.Formed.{Rowed};
-ghost use Rattle.slot.specs.Places.{hasKey, rowsOf, slotRows};
+ghost use Rattle.slot.specs.Places.{hasKey, notesOf, slotRows};
 ghost use Rattle.versions.specs.Versions.{Columns, columns, keyed, versionsOf};
-ghost use Rattle.versions.specs.Columns.{Lent};
+ghost use Rattle.versions.specs.Columns.{Spans};
 ghost use Rattle.map_store.specs.Meaning.{firsts, clash};
 ghost use Rattle.map_store.specs.Shape.{roomOf};
 ghost use Rattle.map_store.specs.Contracts.{Committed};
@@ -33,7 +33,7 @@ fn room(rows: usize) -> usize
 // Whether row i of a slot is the first that has its key: of one key twice it alone counts.
 fn is_first(s: Slot, i: usize) -> bool
     requires { ⌜ Rowed s × (i < s .count) ⌝ }
-    ensures { λ r. ⌜ r ≡ not (hasKey (getD (s .keys) i 0) (rowsOf (s .keys) (s .values) i)) ⌝ }
+    ensures { λ r. ⌜ r ≡ not (hasKey (getD (s .keys) i 0) (notesOf (s .keys) (s .values) i)) ⌝ }
 {
     let written = s.keys;
     let k = written[i];
@@ -87,7 +87,7 @@ fn stamp(
     used: usize,
     t: u64,
 ) -> usize
-    requires { do ⌜ Rowed s × (used ≤ (← ⟦Version::ROWS⟧)) × Lent (used + length (firsts (slotRows s))) (columns (now keys) (now times) (now values)) ⌝ }
+    requires { do ⌜ Rowed s × (used ≤ (← ⟦Version::ROWS⟧)) × Spans (used + length (firsts (slotRows s))) (columns (now keys) (now times) (now values)) ⌝ }
     ensures { λ r. ⌜ Stamped t used (firsts (slotRows s)) (columns (now (keys .entry)) (now (times .entry)) (now (values .entry))) (columns (now (keys .exit)) (now (times .exit)) (now (values .exit))) r ⌝ }
 {
     let written = s.keys;

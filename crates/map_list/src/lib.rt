@@ -4,7 +4,7 @@ ghost use Prim.Native.Nat.{_≤_, _<_};
 ghost use lib.ListN.{length};
 ghost use Rattle.answer.specs.Reply.{ofListed};
 ghost use Rattle.versions.specs.Versions.{columns, versionsOf, listAt};
-ghost use Rattle.versions.specs.Columns.{Lent};
+ghost use Rattle.versions.specs.Columns.{Spans};
 ghost use Rattle.table.specs.Table.{Spare};
 ghost use Rattle.map_store.specs.Contracts.{ListedAt};
 ghost use Rattle.map_list.specs.List.{ListedIn};
@@ -25,7 +25,7 @@ fn write(
     out_keys: &mut [u32],
     out_values: &mut [u32],
 ) -> Listed
-    requires { do ⌜ Lent used (columns (now keys) (now times) (now values)) × (used ≤ (← ⟦Version::ROWS⟧)) × Spare (now listed) (now contents) used × (length (now «out_keys») ≡ length (now «out_values»)) ⌝ }
+    requires { do ⌜ Spans used (columns (now keys) (now times) (now values)) × (used ≤ (← ⟦Version::ROWS⟧)) × Spare (now listed) (now contents) used × (length (now «out_keys») ≡ length (now «out_values»)) ⌝ }
     ensures { λ r. ⌜ ListedIn (listAt (versionsOf used (columns (now (keys .entry)) (now (times .entry)) (now (values .entry)))) t) (now («out_keys» .entry)) (now («out_values» .entry)) (ofListed r) (now («out_keys» .exit)) (now («out_values» .exit)) ⌝ }
 {
     let count = newest::listing(keys, times, values, used, t, listed, contents);
@@ -47,7 +47,7 @@ fn write_any(
     out_keys: &mut [u32],
     out_values: &mut [u32],
 ) -> Listed
-    requires { do ⌜ Lent used (columns (now keys) (now times) (now values)) × (used ≤ (← ⟦Version::ROWS⟧)) × (length (now «out_keys») ≡ length (now «out_values»)) ⌝ }
+    requires { do ⌜ Spans used (columns (now keys) (now times) (now values)) × (used ≤ (← ⟦Version::ROWS⟧)) × (length (now «out_keys») ≡ length (now «out_values»)) ⌝ }
     ensures { λ r. ⌜ ListedIn (listAt (versionsOf used (columns (now (keys .entry)) (now (times .entry)) (now (values .entry)))) t) (now («out_keys» .entry)) (now («out_values» .entry)) (ofListed r) (now («out_keys» .exit)) (now («out_values» .exit)) ⌝ }
 {
     if used < Version::FEW {

@@ -16,7 +16,7 @@ use Rattle.versions.specs.Columns.{thinned}
 use Rattle.map_store.specs.declared.MapHead.{MapHead}
 use Rattle.map_store.specs.Meaning.{MapStore, mapAnswer, gives, readRefusal, readIn, lookupRefusal, listAnswer, checkpointRefusal}
 use Rattle.map_store.specs.Shape.{lengths, isShaped, roomOf, meaning}
-use Rattle.map_store.specs.Heads.{headAfter, rowsIn, written, keptHead}
+use Rattle.map_store.specs.Heads.{headAfter, rowsIn, stamped, keptHead}
 
 -- the number of a call on lent cells: 1 where the shape is bad, else what it gets on their meaning
 abbrev pub shapedNumber : MapHead → Columns → (MapStore → ℕ) → ℕ
@@ -38,7 +38,7 @@ pub record Answered (c : Call) (h : MapHead) (cs : Columns) (a : Reply) (head : 
 -- commit: the same, and a version for each key behind the used rows of the columns, or the columns as they were
 pub record Committed (n t : ℕ) (h : MapHead) (cs : Columns) (a : Reply) (head : MapHead) (cs' : Columns) : Type 0 where
   pub answered : Answered (Commit n t) h cs a head
-  pub cells : cs' ≡ after (number (Commit n t) h cs) (written (h .used) t (rowsIn (h .slots) (slotOf (h .slots) n)) cs) cs
+  pub cells : cs' ≡ after (number (Commit n t) h cs) (stamped (h .used) t (rowsIn (h .slots) (slotOf (h .slots) n)) cs) cs
 
 -- read and lookup: the value, or absent
 abbrev pub readReply : ℕ → ℕ → MapHead → Columns → Reply

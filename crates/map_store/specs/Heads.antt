@@ -56,9 +56,9 @@ headAfter (Abort n) h vs = abortedHead (slotOf (h .slots) n) h
 headAfter (Commit n t) h vs = committedHead t (slotOf (h .slots) n) h
 
 -- columns whose first n rows are used, with a version at t for each of some rows behind these, the oldest first
-abbrev pub written : ℕ → ℕ → List Note → Columns → Columns
-written n t [] cs = cs
-written n t (r ∷ older) cs = withVersion (n + length older) (versionOf t r) (written n t older cs)
+abbrev pub stamped : ℕ → ℕ → List Note → Columns → Columns
+stamped n t [] cs = cs
+stamped n t (r ∷ older) cs = withVersion (n + length older) (versionOf t r) (stamped n t older cs)
 
 -- checkpoint: low is T, and the versions kept are counted
 abbrev pub keptHead : ℕ → MapHead → List Version → MapHead

@@ -24,7 +24,7 @@ use Rattle.slot.specs.Laws.{first-slot}
 use Rattle.slot.specs.Places.{free, placeOf, placeIn, placesOf, takenBy}
 use Rattle.slot.specs.PlaceLaws.{place-slot}
 use Rattle.versions.specs.Versions.{Columns, versionsOf}
-use Rattle.versions.specs.Columns.{Lent}
+use Rattle.versions.specs.Columns.{Spans}
 use Rattle.map_store.specs.declared.MapHead.{MapHead}
 use Rattle.map_store.specs.declared.Outcome.{Outcome}
 use Rattle.map_store.specs.Meaning.{MapStore, mapAnswer, gives}
@@ -46,7 +46,7 @@ module _ (h : Slots) (n : ℕ) (f : Found) (e : f ≡ slotOf h n) where
     rowed-found w = w .rowed i (first-slot (hasNumber n) h (sym e ∙ g) .occupied)
 
 -- lent rows of a good shape
-pub lent : (h : MapHead) (cs : Columns) → Shaped h (lengths cs) → Lent (h .used) cs
+pub lent : (h : MapHead) (cs : Columns) → Shaped h (lengths cs) → Spans (h .used) cs
 lent h cs w =
     record { keys = w .rows; times = omega (arith, w .rows, w .times); values = omega (arith, w .rows, w .values) }
 

@@ -9,9 +9,9 @@ use Rattle.rules.specs.Limits.{mostRunning, mostKeys, numbersEnd}
 use Rattle.rules.specs.declared.Value.{Value}
 use Rattle.rules.specs.declared.Value.the-variants.{Absent, Present}
 use Rattle.rules.specs.declared.Effect.{Effect}
-use Rattle.rules.specs.Effects.{orZero, applied}
+use Rattle.rules.specs.Effects.{orZero, applied, orElse}
 use Rattle.rules.specs.Calls.{Call, Begin, Update, Abort, Commit, timeTests, lookupTests, checkpointTests, withRoom}
-use Rattle.slot.specs.Places.{Note, Place, free, taken, hasKey, orElse, runningValue, note, placeOf, openIn, amend, occupied, holds}
+use Rattle.slot.specs.Places.{Note, Place, free, taken, hasKey, runningValue, note, placeOf, openIn, amend, occupied, holds}
 use Rattle.versions.specs.declared.Version.{Version}
 use Rattle.versions.specs.Versions.{valueAt, later, keptFrom, listAt}
 

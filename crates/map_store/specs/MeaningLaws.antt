@@ -24,12 +24,12 @@ use Rattle.slot.specs.PlaceLaws.{empty-places, opened-places, closed-places, no
 use Rattle.slot.specs.RowLaws.{cases, length-rows}
 use Rattle.versions.specs.declared.Version.{Version}
 use Rattle.versions.specs.Versions.{Columns, versionsOf, keptFrom}
-use Rattle.versions.specs.Columns.{Lent, Long, column, settled, thinned}
+use Rattle.versions.specs.Columns.{Spans, Long, column, settled, thinned}
 use Rattle.versions.specs.Laws.{long-self, lent-fewer, lent-long, each-long, none-lent, appended-versions, kept-versions, length-column, length-kept, length-versions}
 use Rattle.map_store.specs.declared.MapHead.{MapHead}
 use Rattle.map_store.specs.Meaning.{MapStore, emptyMap, current, mapRefusal, mapAnswer, mapAfter, versionOf, stamp, checkpointed}
 use Rattle.map_store.specs.Shape.{emptyHead, Lengths, lengths, isShaped, Shaped, roomOf, meaning}
-use Rattle.map_store.specs.Heads.{begunHead, updatedHead, abortedHead, rowsIn, committedHead, written, keptHead}
+use Rattle.map_store.specs.Heads.{begunHead, updatedHead, abortedHead, rowsIn, committedHead, stamped, keptHead}
 use Rattle.map_store.specs.Laws.{place-none, place-found, lent}
 use Rattle.map_store.specs.Tests.{abort-unknown, update-unknown, commit-unknown, commit-fits}
 
@@ -66,21 +66,21 @@ pub empty-meaning : (cs : Columns) → meaning emptyHead cs ≡ emptyMap
 empty-meaning cs = ap (λ (ps : List Place). record { low = 0; last = 0; next = 1; places = ps; versions = [] }) empty-places
 
 -- what is written is written over
-pub written-long : (n t : ℕ) (rows : List Note) (cs : Columns) → Long cs (written n t rows cs)
+pub written-long : (n t : ℕ) (rows : List Note) (cs : Columns) → Long cs (stamped n t rows cs)
 written-long n t [] cs = long-self cs
 written-long n t (r ∷ older) cs =
     each-long (none-lent cs) (λ field cells. set cells (n + length older) (field (versionOf t r)))
     (λ field cells _. length-set cells (n + length older) (field (versionOf t r))) (written-long n t older cs)
 
 -- rows written behind n used ones are a version each
-pub stamped-versions : (t n : ℕ) (rows : List Note) (cs : Columns) → Lent (n + length rows) cs
-    → versionsOf (n + length rows) (written n t rows cs) ≡ stamp t rows (versionsOf n cs)
+pub stamped-versions : (t n : ℕ) (rows : List Note) (cs : Columns) → Spans (n + length rows) cs
+    → versionsOf (n + length rows) (stamped n t rows cs) ≡ stamp t rows (versionsOf n cs)
 stamped-versions t n [] cs l = rw add-zero
 stamped-versions t n (r ∷ older) cs l =
     let m = n + length older in
     let z : n + suc (length older) ≡ m + 1 = omega arith in
     rw z
-    (appended-versions m (versionOf t r) (written n t older cs) (lent-long (lent-fewer l (omega arith)) (written-long n t older cs))
+    (appended-versions m (versionOf t r) (stamped n t older cs) (lent-long (lent-fewer l (omega arith)) (written-long n t older cs))
     ∙ ap (λ (vs : List Version). versionOf t r ∷ vs) (stamped-versions t n older cs (lent-fewer l (omega arith))))
 
 module _ (h : MapHead) (cs : Columns) (w : Shaped h (lengths cs)) where
@@ -170,7 +170,7 @@ module _ (h : MapHead) (cs : Columns) (w : Shaped h (lengths cs)) where
           let z = commit-unknown (meaning h cs) n (place-none (h .slots) n _ refl g) (roomOf (length (cs .keys))) t in
           omega arith
 
-      pub commit-meaning : meaning (committedHead t (slotOf (h .slots) n) h) (written (h .used) t (rowsIn (h .slots) (slotOf (h .slots) n)) cs)
+      pub commit-meaning : meaning (committedHead t (slotOf (h .slots) n) h) (stamped (h .used) t (rowsIn (h .slots) (slotOf (h .slots) n)) cs)
           ≡ mapAfter (Commit n t) (meaning h cs)
       commit-meaning =
           cases (slotOf (h .slots) n)
@@ -184,7 +184,7 @@ module _ (h : MapHead) (cs : Columns) (w : Shaped h (lengths cs)) where
           (record { keys = omega arith; times = omega (arith, w .times); values = omega (arith, w .values) }))))
           (λ g. absurd (unknown g))
 
-      pub commit-shaped : Shaped (committedHead t (slotOf (h .slots) n) h) (lengths (written (h .used) t (rowsIn (h .slots) (slotOf (h .slots) n)) cs))
+      pub commit-shaped : Shaped (committedHead t (slotOf (h .slots) n) h) (lengths (stamped (h .used) t (rowsIn (h .slots) (slotOf (h .slots) n)) cs))
       commit-shaped =
           cases (slotOf (h .slots) n)
           (λ i g.

@@ -4,7 +4,7 @@ ghost use mathlib.Core.Path.{_≡_};
 ghost use mathlib.Core.Bool.{true};
 ghost use Rattle.slot.specs.Formed.{Rowed};
 ghost use Rattle.slot.specs.Places.{slotRows};
-ghost use Rattle.versions.specs.Columns.{Lent};
+ghost use Rattle.versions.specs.Columns.{Spans};
 ghost use Rattle.versions.specs.Versions.{columns, versionsOf};
 ghost use Rattle.map_store.specs.Meaning.{current};
 ghost use Rattle.map_store.specs.Heads.{withSlots};
@@ -118,7 +118,7 @@ fn accepted(h: MapHead, slots: Slots) -> Outcome
 
 // Rule 3.5: what the transaction of a slot reads in k: the running value in its row, or the value at the snapshot where it has none.
 fn current_value(s: Slot, keys: &[u32], times: &[u64], values: &[u32], used: usize, k: u32) -> Value
-    requires { ⌜ Rowed s × Lent used (columns (now keys) (now times) (now values)) ⌝ }
+    requires { ⌜ Rowed s × Spans used (columns (now keys) (now times) (now values)) ⌝ }
     ensures { λ r. ⌜ r ≡ current k (s .snapshot) (slotRows s) (versionsOf used (columns (now (keys .entry)) (now (times .entry)) (now (values .entry)))) ⌝ }
 {
     let running = s.values;

@@ -9,7 +9,7 @@ ghost use Rattle.rules.specs.Effects.{orZero, applied};
 ghost use Rattle.answer.specs.Reply.{ofDone};
 ghost use Rattle.slot.specs.Formed.{Rowed};
 ghost use Rattle.slot.specs.Places.{hasKey, slotRows};
-ghost use Rattle.versions.specs.Columns.{Lent};
+ghost use Rattle.versions.specs.Columns.{Spans};
 ghost use Rattle.versions.specs.Versions.{columns, versionsOf};
 ghost use Rattle.map_store.specs.Meaning.{current};
 ghost use Rattle.map_store.specs.Contracts.{Answered};
@@ -41,7 +41,7 @@ fn running_value(
     k: u32,
     e: Effect,
 ) -> u32
-    requires { ⌜ Rowed s × Lent used (columns (now keys) (now times) (now values)) ⌝ }
+    requires { ⌜ Rowed s × Spans used (columns (now keys) (now times) (now values)) ⌝ }
     ensures { λ r. ⌜ r ≡ orZero (applied e (current k (s .snapshot) (slotRows s) (versionsOf used (columns (now (keys .entry)) (now (times .entry)) (now (values .entry)))))) ⌝ }
 {
     match e {

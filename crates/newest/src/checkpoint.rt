@@ -5,8 +5,8 @@ ghost use Prim.Native.Nat.{ℕ, _≤_, _<_};
 ghost use lib.Dec.{ltb};
 ghost use lib.ListN.{length, getD, take};
 ghost use Rattle.rules.specs.Lists.{among};
-ghost use Rattle.versions.specs.Versions.{Columns, columns, keyed, versionAt, versionsOf, newest, isRow, stays};
-ghost use Rattle.versions.specs.Columns.{Lent, marked, Moved, cleared, Kept};
+ghost use Rattle.versions.specs.Versions.{Columns, columns, keyed, versionAt, versionsOf, newest, isRow, isKept};
+ghost use Rattle.versions.specs.Columns.{Spans, marked, Moved, cleared, Kept};
 ghost use Rattle.table.specs.Table.{Spare};
 use column::Found;
 use versions::Version;
@@ -60,7 +60,7 @@ fn mark_kept(
     marks: &mut [bool],
 )
     requires { do ⌜ (used ≤ (← ⟦Version::ROWS⟧)) × (used ≤ length (now keys)) × (used ≤ length (now times)) × Spare (now listed) (now places) used × (used ≤ length (now marks)) ⌝ }
-    ensures { λ _. ⌜ ((others : Columns) (i : ℕ) → i < used → getD (now (marks .exit)) i false ≡ stays t (versionsOf used (keyed (now (keys .entry)) (now (times .entry)) others)) i (versionAt i (keyed (now (keys .entry)) (now (times .entry)) others))) ⌝ }
+    ensures { λ _. ⌜ ((others : Columns) (i : ℕ) → i < used → getD (now (marks .exit)) i false ≡ isKept t (versionsOf used (keyed (now (keys .entry)) (now (times .entry)) others)) i (versionAt i (keyed (now (keys .entry)) (now (times .entry)) others))) ⌝ }
 {
     let n = crate::newest_rows(keys, times, used, t, listed, places);
     mark_late(times, used, t, marks);
@@ -76,7 +76,7 @@ fn move_up(
     used: usize,
     marks: &[bool],
 ) -> usize
-    requires { ⌜ Lent used (columns (now keys) (now times) (now values)) × (used ≤ length (now marks)) ⌝ }
+    requires { ⌜ Spans used (columns (now keys) (now times) (now values)) × (used ≤ length (now marks)) ⌝ }
     ensures { λ r. ⌜ Moved (marked (now (marks .entry)) (versionsOf used (columns (now (keys .entry)) (now (times .entry)) (now (values .entry))))) (columns (now (keys .entry)) (now (times .entry)) (now (values .entry))) (columns (now (keys .exit)) (now (times .exit)) (now (values .exit))) r ⌝ }
 {
     let mut kept = 0;
@@ -95,7 +95,7 @@ fn move_up(
 
 // Makes the rows from `from` up to `to` zero.
 fn clear(keys: &mut [u32], times: &mut [u64], values: &mut [u32], from: usize, to: usize)
-    requires { ⌜ Lent to (columns (now keys) (now times) (now values)) × (from ≤ to) ⌝ }
+    requires { ⌜ Spans to (columns (now keys) (now times) (now values)) × (from ≤ to) ⌝ }
     ensures { λ _. ⌜ columns (now (keys .exit)) (now (times .exit)) (now (values .exit)) ≡ cleared from to (columns (now (keys .entry)) (now (times .entry)) (now (values .entry))) ⌝ }
 {
     let mut i = from;
@@ -118,7 +118,7 @@ fn keep(
     places: &mut [u32],
     marks: &mut [bool],
 ) -> usize
-    requires { do ⌜ Lent used (columns (now keys) (now times) (now values)) × (used ≤ (← ⟦Version::ROWS⟧)) × Spare (now listed) (now places) used × (used ≤ length (now marks)) ⌝ }
+    requires { do ⌜ Spans used (columns (now keys) (now times) (now values)) × (used ≤ (← ⟦Version::ROWS⟧)) × Spare (now listed) (now places) used × (used ≤ length (now marks)) ⌝ }
     ensures { λ r. ⌜ Kept t used (columns (now (keys .entry)) (now (times .entry)) (now (values .entry))) (columns (now (keys .exit)) (now (times .exit)) (now (values .exit))) r ⌝ }
 {
     mark_kept(keys, times, used, t, listed, places, marks);
@@ -129,7 +129,7 @@ fn keep(
 
 // A checkpoint of few versions, so that small columns are enough.
 fn keep_few(keys: &mut [u32], times: &mut [u64], values: &mut [u32], used: usize, t: u64) -> usize
-    requires { do ⌜ Lent used (columns (now keys) (now times) (now values)) × (used < (← ⟦Version::FEW⟧)) ⌝ }
+    requires { do ⌜ Spans used (columns (now keys) (now times) (now values)) × (used < (← ⟦Version::FEW⟧)) ⌝ }
     ensures { λ r. ⌜ Kept t used (columns (now (keys .entry)) (now (times .entry)) (now (values .entry))) (columns (now (keys .exit)) (now (times .exit)) (now (values .exit))) r ⌝ }
 {
     let mut listed = [0u32; Version::FEW];
@@ -155,7 +155,7 @@ pub fn keep_from(
     used: usize,
     t: u64,
 ) -> usize
-    requires { do ⌜ Lent used (columns (now keys) (now times) (now values)) × (used ≤ (← ⟦Version::ROWS⟧)) ⌝ }
+    requires { do ⌜ Spans used (columns (now keys) (now times) (now values)) × (used ≤ (← ⟦Version::ROWS⟧)) ⌝ }
     ensures { λ r. ⌜ Kept t used (columns (now (keys .entry)) (now (times .entry)) (now (values .entry))) (columns (now (keys .exit)) (now (times .exit)) (now (values .exit))) r ⌝ }
 {
     if used < Version::FEW {

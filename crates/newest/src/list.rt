@@ -4,7 +4,7 @@ ghost use mathlib.Core.List.{_++_};
 ghost use Prim.Native.Nat.{ℕ, _≤_, _<_};
 ghost use lib.ListN.{length, take, drop, getD};
 ghost use Rattle.versions.specs.Versions.{columns, versionsOf, listAt};
-ghost use Rattle.versions.specs.Columns.{Lent};
+ghost use Rattle.versions.specs.Columns.{Spans};
 ghost use Rattle.table.specs.Table.{Spare, Next};
 ghost use Rattle.newest.specs.Newest.{followed};
 use versions::Version;
@@ -31,7 +31,7 @@ pub fn listing(
     listed: &mut [u32],
     contents: &mut [u32],
 ) -> usize
-    requires { do ⌜ (used ≤ (← ⟦Version::ROWS⟧)) × Lent used (columns (now keys) (now times) (now values)) × Spare (now listed) (now contents) used ⌝ }
+    requires { do ⌜ (used ≤ (← ⟦Version::ROWS⟧)) × Spans used (columns (now keys) (now times) (now values)) × Spare (now listed) (now contents) used ⌝ }
     ensures { λ r. ⌜ Next (listAt (versionsOf used (columns (now (keys .entry)) (now (times .entry)) (now (values .entry)))) t) (now (listed .entry)) (now (contents .entry)) (now (listed .exit)) (now (contents .exit)) r ⌝ }
 {
     let n = crate::newest_rows(keys, times, used, t, listed, contents);

@@ -44,9 +44,9 @@ recordAt bytes at =
     }
 
 -- the first n records, the newest first
-abbrev pub newest : ℕ → List ℕ → List Record
-newest zero bytes = []
-newest (suc n) bytes = recordAt bytes (n * recordBytes) ∷ newest n bytes
+abbrev pub recordsIn : ℕ → List ℕ → List Record
+recordsIn zero bytes = []
+recordsIn (suc n) bytes = recordAt bytes (n * recordBytes) ∷ recordsIn n bytes
 
 -- the lowest bytes of v, as many as the width, the lowest first
 abbrev pub leBytes : ℕ → ℕ → List ℕ

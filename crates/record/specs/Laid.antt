@@ -8,7 +8,7 @@ use lib.ListN.{length, take, drop, length-append}
 use lib.Seq.{drop-drop, length-take-le, take-append-le, drop-append-add, take-all}
 use Rattle.rules.specs.declared.Record.{Record}
 use Rattle.rules.specs.Kinds.{recordBytes}
-use Rattle.record.specs.Bytes.{Bytes, le, fieldAt, recordAt, newest, bytesOf, appended}
+use Rattle.record.specs.Bytes.{Bytes, le, fieldAt, recordAt, recordsIn, bytesOf, appended}
 use Rattle.record.specs.Laws.{Fit, fit-read, record-back}
 
 -- the bytes of records, the newest first, in the order of the journal
@@ -26,20 +26,20 @@ length-laid [] = refl
 length-laid (r ∷ older) = rw (length-append, length-laid older) (omega arith)
 
 -- records that are laid out are read back
-pub newest-laid : (rs : List Record) (x : List ℕ) → AllFit rs → newest (length rs) (laid rs ++ x) ≡ rs
-newest-laid [] x f = refl
-newest-laid (r ∷ older) x (more f fs) =
+pub records-laid : (rs : List Record) (x : List ℕ) → AllFit rs → recordsIn (length rs) (laid rs ++ x) ≡ rs
+records-laid [] x f = refl
+records-laid (r ∷ older) x (more f fs) =
     let back : recordAt (laid older ++ (bytesOf r ++ x)) (length older * recordBytes) ≡ r =
     ap (recordAt (laid older ++ (bytesOf r ++ x))) (sym (length-laid older)) ∙ record-back (laid older) x r f
     in
     rw append-assoc
-    (ap (λ (y : Record). y ∷ newest (length older) (laid older ++ (bytesOf r ++ x))) back
-    ∙ ap (λ (rs : List Record). r ∷ rs) (newest-laid older (bytesOf r ++ x) fs))
+    (ap (λ (y : Record). y ∷ recordsIn (length older) (laid older ++ (bytesOf r ++ x))) back
+    ∙ ap (λ (rs : List Record). r ∷ rs) (records-laid older (bytesOf r ++ x) fs))
 
 -- records that were read from bytes fit
-pub fit-newest : (n : ℕ) (b : List ℕ) → Bytes b → AllFit (newest n b)
-fit-newest zero b h = none
-fit-newest (suc n) b h = more (fit-read b (n * recordBytes) h) (fit-newest n b h)
+pub fit-records : (n : ℕ) (b : List ℕ) → Bytes b → AllFit (recordsIn n b)
+fit-records zero b h = none
+fit-records (suc n) b h = more (fit-read b (n * recordBytes) h) (fit-records n b h)
 
 -- bytes that agree from a place on agree from any later one on
 pub drop-more : (b d : List ℕ) (at n : ℕ) → drop at b ≡ drop at d → drop (at + n) b ≡ drop (at + n) d

@@ -9,7 +9,7 @@ use lib.ListN.{length, take, drop, length-append, length-drop, take-append-drop}
 use lib.Seq.{drop-append-add, drop-drop, take-add, length-take-le}
 use Rattle.rules.specs.declared.Record.{Record}
 use Rattle.rules.specs.Kinds.{recordBytes}
-use Rattle.record.specs.Bytes.{Bytes, le, fieldAt, recordAt, newest, bytesOf, appended}
+use Rattle.record.specs.Bytes.{Bytes, le, fieldAt, recordAt, recordsIn, bytesOf, appended}
 use Rattle.record.specs.Numbers.{le-leBytes, field-fits, field-bytes, field-front, field-split}
 
 -- the numbers fit their bytes
@@ -42,9 +42,9 @@ record-front a x at h =
     )
 
 -- bytes behind the records do not matter
-pub newest-front : (a x : List ℕ) (n : ℕ) → n * recordBytes ≤ length a → newest n (a ++ x) ≡ newest n a
-newest-front a x zero h = refl
-newest-front a x (suc n) h = rw (record-front a x (n * recordBytes) (omega arith), newest-front a x n (omega arith))
+pub records-front : (a x : List ℕ) (n : ℕ) → n * recordBytes ≤ length a → recordsIn n (a ++ x) ≡ recordsIn n a
+records-front a x zero h = refl
+records-front a x (suc n) h = rw (record-front a x (n * recordBytes) (omega arith), records-front a x n (omega arith))
 
 -- reading back what was written gives the record
 pub record-back : (a x : List ℕ) (r : Record) → Fit r → recordAt (a ++ (bytesOf r ++ x)) (length a) ≡ r
@@ -103,19 +103,19 @@ fit-read b at h =
     }
 
 -- a record written behind n records is the newest of n + 1
-pub newest-appended : (b : List ℕ) (n : ℕ) (r : Record) → Fit r → n * recordBytes + recordBytes ≤ length b
-    → newest (suc n) (appended b n r) ≡ r ∷ newest n b
-newest-appended b n r f h =
+pub records-appended : (b : List ℕ) (n : ℕ) (r : Record) → Fit r → n * recordBytes + recordBytes ≤ length b
+    → recordsIn (suc n) (appended b n r) ≡ r ∷ recordsIn n b
+records-appended b n r f h =
     let e : length (take (n * recordBytes) b) ≡ n * recordBytes = length-take-le (n * recordBytes) b (omega arith) in
     let back : recordAt (appended b n r) (n * recordBytes) ≡ r =
     ap (recordAt (appended b n r)) (sym e) ∙ record-back (take (n * recordBytes) b) (drop (n * recordBytes + recordBytes) b) r f
     in
-    let front : newest n (appended b n r) ≡ newest n b =
-    newest-front (take (n * recordBytes) b) (bytesOf r ++ drop (n * recordBytes + recordBytes) b) n (omega arith)
-    ∙ sym (newest-front (take (n * recordBytes) b) (drop (n * recordBytes) b) n (omega arith))
-    ∙ ap (newest n) (take-append-drop (n * recordBytes) b)
+    let front : recordsIn n (appended b n r) ≡ recordsIn n b =
+    records-front (take (n * recordBytes) b) (bytesOf r ++ drop (n * recordBytes + recordBytes) b) n (omega arith)
+    ∙ sym (records-front (take (n * recordBytes) b) (drop (n * recordBytes) b) n (omega arith))
+    ∙ ap (recordsIn n) (take-append-drop (n * recordBytes) b)
     in
-    ap (λ (x : Record). x ∷ newest n (appended b n r)) back ∙ ap (λ (rs : List Record). r ∷ rs) front
+    ap (λ (x : Record). x ∷ recordsIn n (appended b n r)) back ∙ ap (λ (rs : List Record). r ∷ rs) front
 
 -- a record behind the used ones leaves the journal as long as it was
 pub length-appended : (b : List ℕ) (n : ℕ) (r : Record) → n * recordBytes + recordBytes ≤ length b → length (appended b n r) ≡ length b
@@ -124,12 +124,12 @@ length-appended b n r h =
     simp (length-append, length-drop, e) (omega arith)
 
 -- as many records as asked for
-pub length-newest : (n : ℕ) (b : List ℕ) → length (newest n b) ≡ n
-length-newest zero b = refl
-length-newest (suc n) b = rw (length-newest n b)
+pub length-records : (n : ℕ) (b : List ℕ) → length (recordsIn n b) ≡ n
+length-records zero b = refl
+length-records (suc n) b = rw (length-records n b)
 
 -- a cut is a drop
-pub drop-newest : (x n : ℕ) (b : List ℕ) → drop x (newest n b) ≡ newest (n - x) b
-drop-newest zero n b = rw sub-zero
-drop-newest (suc x) zero b = rw zero-sub
-drop-newest (suc x) (suc n) b = rw suc-sub-suc (drop-newest x n b)
+pub drop-records : (x n : ℕ) (b : List ℕ) → drop x (recordsIn n b) ≡ recordsIn (n - x) b
+drop-records zero n b = rw sub-zero
+drop-records (suc x) zero b = rw zero-sub
+drop-records (suc x) (suc n) b = rw suc-sub-suc (drop-records x n b)

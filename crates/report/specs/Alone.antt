@@ -21,8 +21,8 @@ use Rattle.rules.specs.Lists.{rowKeys, listAt}
 use Rattle.rules.specs.Columns.{rowValues, firstRows, front-rows}
 use Rattle.rules.specs.Calls.{listAnswer, lastOf, listOf}
 use Rattle.rules.specs.Recovery.{walk, done, survivors}
-use Rattle.record.specs.Bytes.{Bytes, newest}
-use Rattle.record.specs.Laws.{length-newest}
+use Rattle.record.specs.Bytes.{Bytes, recordsIn}
+use Rattle.record.specs.Laws.{length-records}
 use Rattle.answer.specs.declared.Refusal.{Refusal}
 use Rattle.answer.specs.declared.Done.{Done}
 use Rattle.answer.specs.declared.Done.the-variants as done-as
@@ -42,7 +42,7 @@ use Rattle.report.specs.Written.{Written, Alone, Reported}
 use Rattle.report.specs.Laws.{list-length, above-floor}
 
 module _ (h : Head) (keys values j : List ℕ) (t : ℕ) (listed contents : List ℕ) (a : Alone h (length j)) (paired : length keys ≡ length values)
-    (room : length listed ≡ 2048) (same : length contents ≡ 2048) (e : t ≡ last (h .low) (newest (h .journal .used) j)) where
+    (room : length listed ≡ 2048) (same : length contents ≡ 2048) (e : t ≡ last (h .low) (recordsIn (h .journal .used) j)) where
   shaped : isListShaped h (length keys) (length values) (length j) (length listed) (length contents) ≡ true
   shaped =
       rw (
@@ -57,16 +57,16 @@ module _ (h : Head) (keys values j : List ℕ) (t : ℕ) (listed contents : List
         ne-eqb (h .floor) 0 (omega (arith, a .floor)),
       )
 
-  alone-rows : listOf t (meaning h keys values j) ≡ listAt [] (newest (h .journal .used) j) (last 0 (newest (h .journal .used) j))
+  alone-rows : listOf t (meaning h keys values j) ≡ listAt [] (recordsIn (h .journal .used) j) (last 0 (recordsIn (h .journal .used) j))
   alone-rows = rw (e, a .low, a .base)
 
   -- the list has room, and its time is neither too old nor in the future
   alone-number : listNumber h keys values j t (length listed) (length contents) ≡ 0
   alone-number =
       let s = meaning h keys values j in
-      let rs = newest (h .journal .used) j in
+      let rs = recordsIn (h .journal .used) j in
       let fits : length (listOf t s) ≤ length listed =
-      rw (alone-rows, room) (omega (arith, list-length rs (last 0 rs), length-newest (h .journal .used) j, a .few))
+      rw (alone-rows, room) (omega (arith, list-length rs (last 0 rs), length-records (h .journal .used) j, a .few))
       in
       ap (λ (b : Bool). cond b (listAnswer (length listed) t s) 1) shaped
       ∙ sym (ap (λ (r : Reply). r .number) (list-rows (length listed) t s (omega (arith, a .low)) false (sym (le-ltb (lastOf s) t (omega (arith, e)))) refl (length (listOf t s)) refl fits))
@@ -77,21 +77,21 @@ module _ (h : Head) (keys values j : List ℕ) (t : ℕ) (listed contents : List
         let z : numberOf x ≡ 0 = sym (ap (λ (y : Listed). ofListed y .number) f) ∙ ap (λ (r : Reply). r .number) (b .reply) ∙ alone-number in
         not-both (eqb (numberOf x) 0) (rw z) (refused-some x)
 
-    pub list-count : (n : ℕ) → answer ≡ listed-as.Rows n → n ≡ length (listAt [] (newest (h .journal .used) j) (last 0 (newest (h .journal .used) j)))
+    pub list-count : (n : ℕ) → answer ≡ listed-as.Rows n → n ≡ length (listAt [] (recordsIn (h .journal .used) j) (last 0 (recordsIn (h .journal .used) j)))
     list-count n f =
         sym (ap (λ (y : Listed). orZero (ofListed y .value)) f) ∙ ap (λ (r : Reply). orZero (r .value)) (b .reply) ∙ rw (alone-number, alone-rows)
 
     -- at most 2,048 rows
     pub list-few : (n : ℕ) → answer ≡ listed-as.Rows n → n ≤ 2048
     list-few n f =
-        let rs = newest (h .journal .used) j in
-        omega (arith, list-count n f, list-length rs (last 0 rs), length-newest (h .journal .used) j, a .few)
+        let rs = recordsIn (h .journal .used) j in
+        omega (arith, list-count n f, list-length rs (last 0 rs), length-records (h .journal .used) j, a .few)
 
     -- what is printed is the list at last
     pub list-text : (n : ℕ) → answer ≡ listed-as.Rows n
-        → line timeIs t ++ (line keysIs n ++ rowLines (firstRows n listed' contents')) ≡ listText (newest (h .journal .used) j)
+        → line timeIs t ++ (line keysIs n ++ rowLines (firstRows n listed' contents')) ≡ listText (recordsIn (h .journal .used) j)
     list-text n f =
-        let rs = newest (h .journal .used) j in
+        let rs = recordsIn (h .journal .used) j in
         let rows = listAt [] rs (last 0 rs) in
         let k : listed' ≡ rowKeys rows ++ drop (length rows) listed = b .keys-column ∙ rw (alone-number, alone-rows) in
         let v : contents' ≡ rowValues rows ++ drop (length rows) contents = b .values-column ∙ rw (alone-number, alone-rows) in
@@ -155,11 +155,11 @@ module _ (h : Head) (keys values j : List ℕ) (survived : ℕ) (eh : h ≡ empt
       headed : head ≡ recoveredHead h (surviving survived j)
       headed = d .headed ∙ rw number-zero
 
-      pub recovered-text : Bytes j → listText (newest (head .journal .used) exit) ≡ reportText j survived
+      pub recovered-text : Bytes j → listText (recordsIn (head .journal .used) exit) ≡ reportText j survived
       recovered-text bytes =
           let rs = surviving survived j in
           let c : exit ≡ compacted (survivors rs) survived j = d .cells ∙ rw number-zero in
-          let m : newest (head .journal .used) exit ≡ survivors rs = rw (headed, c) (recover-meaning h keys values j survived bytes) in
+          let m : recordsIn (head .journal .used) exit ≡ survivors rs = rw (headed, c) (recover-meaning h keys values j survived bytes) in
           ap listText m ∙ ap (λ (a : Reply). replyText a rs) (sym (ap ofDone f) ∙ d .reply) ∙ reply-text
 
       -- what was recovered is a journal alone
@@ -174,7 +174,7 @@ module _ (h : Head) (keys values j : List ℕ) (survived : ℕ) (eh : h ≡ empt
           let g : head .floor ≡ min (above (h .floor) rs) 4294967295 = ap (λ (x : Head). x .floor) headed in
           let one : h .floor ≡ 1 = ap (λ (x : Head). x .floor) eh in
           let few = length-only (done rs) rs in
-          let all = length-newest (survived / recordBytes) j in
+          let all = length-records (survived / recordBytes) j in
           record {
             low = ap (λ (x : Head). x .low) headed ∙ ap (λ (x : Head). x .low) eh;
             base = ap (λ (x : Head). x .base) headed ∙ ap (λ (x : Head). x .base) eh;

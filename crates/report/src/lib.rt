@@ -4,7 +4,7 @@ ghost use Prim.Native.Nat.{_+_, _*_, _≤_};
 ghost use lib.ListN.{length};
 ghost use Rattle.rules.specs.Columns.{firstRows};
 ghost use Rattle.answer.specs.Reply.{numberOf, placeNumber};
-ghost use Rattle.record.specs.Bytes.{newest};
+ghost use Rattle.record.specs.Bytes.{recordsIn};
 ghost use Rattle.report.specs.Text.{field as fieldText, line as lineText, pairLine, rowLines, listText, refusedText, rowBytes, textBytes};
 ghost use Rattle.report.specs.Written.{Written, Alone, Reported};
 use answer::Done;
@@ -99,7 +99,7 @@ fn refused(out: &mut [u8], refusal: Refusal) -> usize
 // The list at last of a journal alone: 2,048 rows are enough for it.
 fn listing(out: &mut [u8], h: Head, journal: &[u8]) -> usize
     requires { ⌜ Alone h (length (now journal)) × (textBytes ≤ length (now out)) ⌝ }
-    ensures { λ r. ⌜ Written (now (out .entry)) 0 (listText (newest (h .journal .used) (now (journal .entry)))) r (now (out .exit)) ⌝ }
+    ensures { λ r. ⌜ Written (now (out .entry)) 0 (listText (recordsIn (h .journal .used) (now (journal .entry)))) r (now (out .exit)) ⌝ }
 {
     let none = [0u32; 1];
     let mut keys = [0u32; Journal::RECORDS];

@@ -15,6 +15,11 @@ abbrev pub orZero : Value → ℕ
 orZero Absent = 0
 orZero (Present v) = v
 
+-- a value, or another where it is absent
+abbrev pub orElse : Value → Value → Value
+orElse Absent w = w
+orElse (Present v) w = Present v
+
 -- assign v gives v; add d gives the old value plus d modulo 4,294,967,296
 abbrev pub applied : Effect → Value → Value
 applied (Assign v) old = Present v

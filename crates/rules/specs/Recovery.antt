@@ -50,14 +50,14 @@ accepts low [] = true
 accepts low (r ∷ older) = judge low older r && accepts low older
 
 -- what an earlier place found, or else what this one finds
-abbrev pub orElse : Walked → Walked → Walked
-orElse Whole w = w
-orElse (BadAt i) w = BadAt i
+abbrev pub firstBad : Walked → Walked → Walked
+firstBad Whole w = w
+firstBad (BadAt i) w = BadAt i
 
 -- the place of the first record that fails, counted from 0
 abbrev pub walk : ℕ → List Record → Walked
 walk low [] = Whole
-walk low (r ∷ older) = orElse (walk low older) (cond (judge low older r) Whole (BadAt (length older)))
+walk low (r ∷ older) = firstBad (walk low older) (cond (judge low older r) Whole (BadAt (length older)))
 
 -- transaction n has a commit
 abbrev pub done : List Record → ℕ → Bool

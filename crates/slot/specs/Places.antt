@@ -4,6 +4,7 @@ use mathlib.Core.List.{List, [], _∷_}
 use Prim.Native.Nat.{ℕ, zero, suc, _+_}
 use lib.Dec.{eqb, ltb}
 use lib.ListN.{getD}
+use Rattle.rules.specs.Effects.{orElse}
 use Rattle.rules.specs.Limits.{mostRunning}
 use Rattle.rules.specs.declared.Value.{Value}
 use Rattle.rules.specs.declared.Value.the-variants.{Absent, Present}
@@ -32,11 +33,6 @@ noteKeys (r ∷ rows) = r .key ∷ noteKeys rows
 abbrev pub hasKey : ℕ → List Note → Bool
 hasKey k [] = false
 hasKey k (r ∷ rows) = eqb (r .key) k || hasKey k rows
-
--- the first value, or the second where it is absent
-abbrev pub orElse : Value → Value → Value
-orElse Absent w = w
-orElse (Present v) w = Present v
 
 -- the value in a key's row: of one key twice the oldest row counts
 abbrev pub runningValue : ℕ → List Note → Value
@@ -84,13 +80,13 @@ holds t (free ∷ ps) = holds t ps
 holds t (taken m s rows ∷ ps) = ltb s t || holds t ps
 
 -- the first n rows of two columns
-abbrev pub rowsOf : List ℕ → List ℕ → ℕ → List Note
-rowsOf keys values zero = []
-rowsOf keys values (suc n) = record { key = getD keys n 0; value = getD values n 0 } ∷ rowsOf keys values n
+abbrev pub notesOf : List ℕ → List ℕ → ℕ → List Note
+notesOf keys values zero = []
+notesOf keys values (suc n) = record { key = getD keys n 0; value = getD values n 0 } ∷ notesOf keys values n
 
 -- the rows of a slot
 abbrev pub slotRows : Slot → List Note
-slotRows s = rowsOf (s .keys) (s .values) (s .count)
+slotRows s = notesOf (s .keys) (s .values) (s .count)
 
 -- the running value in the row that was found
 abbrev pub valueIn : Slot → Found → Value

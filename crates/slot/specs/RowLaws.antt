@@ -18,13 +18,13 @@ use Rattle.column.specs.declared.Found.{Found}
 use Rattle.column.specs.declared.Found.the-variants.{At, Nothing}
 use Rattle.column.specs.Laws.{first-at, absent-nothing}
 use Rattle.slot.specs.declared.Slot.{Slot}
-use Rattle.slot.specs.Slot.{rowOf, noted}
+use Rattle.slot.specs.Slot.{keyRow, noted}
 use Rattle.slot.specs.Slots.{met}
 use Rattle.slot.specs.Formed.{Rowed}
-use Rattle.slot.specs.Places.{Note, taken, noteKeys, hasKey, runningValue, reset, note, rowsOf, slotRows, valueIn, takenBy}
+use Rattle.slot.specs.Places.{Note, taken, noteKeys, hasKey, runningValue, reset, note, notesOf, slotRows, valueIn, takenBy}
 
 -- there are as many as are asked for
-pub length-rows : (keys values : List ℕ) (n : ℕ) → length (rowsOf keys values n) ≡ n
+pub length-rows : (keys values : List ℕ) (n : ℕ) → length (notesOf keys values n) ≡ n
 length-rows keys values zero = refl
 length-rows keys values (suc n) = ap suc (length-rows keys values n)
 
@@ -41,38 +41,38 @@ below-suc i n l f g = ⊎-elim f g (eq-or-lt-of-le (le-of-suc-le-suc l))
 rows-same : (keys values keys' values' : List ℕ) (n : ℕ)
     → ((j : ℕ) → j < n → getD keys' j 0 ≡ getD keys j 0)
     → ((j : ℕ) → j < n → getD values' j 0 ≡ getD values j 0)
-    → rowsOf keys' values' n ≡ rowsOf keys values n
+    → notesOf keys' values' n ≡ notesOf keys values n
 rows-same keys values keys' values' zero e f = refl
 rows-same keys values keys' values' (suc n) e f =
     rw (e n (omega arith), f n (omega arith), rows-same keys values keys' values' n (λ j l. e j (omega arith)) (λ j l. f j (omega arith)))
 
 module _ (keys values : List ℕ) (k : ℕ) where
   -- row i has the key
-  has-at : (n i : ℕ) → i < n → getD keys i 0 ≡ k → hasKey k (rowsOf keys values n) ≡ true
+  has-at : (n i : ℕ) → i < n → getD keys i 0 ≡ k → hasKey k (notesOf keys values n) ≡ true
   has-at zero i l e = absurd (omega arith)
   has-at (suc n) i l e =
       below-suc i n l
       (λ z. rw (eq-eqb (getD keys n 0) k (rw z at e)))
-      (λ m. or-right (eqb (getD keys n 0) k) (hasKey k (rowsOf keys values n)) (has-at n i m e))
+      (λ m. or-right (eqb (getD keys n 0) k) (hasKey k (notesOf keys values n)) (has-at n i m e))
 
-  has-none : (n : ℕ) → ((j : ℕ) → j < n → getD keys j 0 ≡ k → ⊥) → hasKey k (rowsOf keys values n) ≡ false
+  has-none : (n : ℕ) → ((j : ℕ) → j < n → getD keys j 0 ≡ k → ⊥) → hasKey k (notesOf keys values n) ≡ false
   has-none zero d = refl
   has-none (suc n) d = rw (ne-eqb (getD keys n 0) k (d n (omega arith)), has-none n (λ j l. d j (omega arith)))
 
-  value-none : (n : ℕ) → ((j : ℕ) → j < n → getD keys j 0 ≡ k → ⊥) → runningValue k (rowsOf keys values n) ≡ Absent
+  value-none : (n : ℕ) → ((j : ℕ) → j < n → getD keys j 0 ≡ k → ⊥) → runningValue k (notesOf keys values n) ≡ Absent
   value-none zero d = refl
   value-none (suc n) d = rw (value-none n (λ j l. d j (omega arith)), ne-eqb (getD keys n 0) k (d n (omega arith)))
 
   -- row i is the first that has the key
   module _ (i : ℕ) (e : getD keys i 0 ≡ k) (d : (j : ℕ) → j < i → getD keys j 0 ≡ k → ⊥) where
-    value-at : (n : ℕ) → i < n → runningValue k (rowsOf keys values n) ≡ Present (getD values i 0)
+    value-at : (n : ℕ) → i < n → runningValue k (notesOf keys values n) ≡ Present (getD values i 0)
     value-at zero l = absurd (omega arith)
     value-at (suc n) l =
         below-suc i n l
         (λ z. rw (← z, value-none i d, eq-eqb (getD keys i 0) k e))
         (λ m. rw (value-at n m))
 
-    reset-at : (v n : ℕ) → i < n → i < length values → reset k v (rowsOf keys values n) ≡ rowsOf keys (set values i v) n
+    reset-at : (v n : ℕ) → i < n → i < length values → reset k v (notesOf keys values n) ≡ notesOf keys (set values i v) n
     reset-at v zero l b = absurd (omega arith)
     reset-at v (suc n) l b =
         below-suc i n l
@@ -104,7 +104,7 @@ module _ (s : Slot) (w : Rowed s) (k : ℕ) where
   looked = length-take-le (s .count) (s .keys) (omega (arith, w .keys, w .count))
 
   -- the row found is the first in use that has the key
-  pub row-found : (i : ℕ) → rowOf s k ≡ At i → RowAt s k i
+  pub row-found : (i : ℕ) → keyRow s k ≡ At i → RowAt s k i
   row-found i e =
       let f = first-at k (take (s .count) (s .keys)) {i = i} e in
       let b : i < s .count = rw looked at (f .row) in
@@ -115,20 +115,20 @@ module _ (s : Slot) (w : Rowed s) (k : ℕ) where
       }
 
   -- where none is found, no row in use has the key
-  pub row-absent : rowOf s k ≡ Nothing → (j : ℕ) → j < s .count → getD (s .keys) j 0 ≡ k → ⊥
+  pub row-absent : keyRow s k ≡ Nothing → (j : ℕ) → j < s .count → getD (s .keys) j 0 ≡ k → ⊥
   row-absent e j l = rw (getD-take (s .count) (s .keys) j 0 l) at (absent-nothing k (take (s .count) (s .keys)) e j (rw looked l))
 
   -- a key has a row exactly if one is found
-  pub has-row : hasKey k (slotRows s) ≡ met (rowOf s k)
+  pub has-row : hasKey k (slotRows s) ≡ met (keyRow s k)
   has-row =
-      cases (rowOf s k)
+      cases (keyRow s k)
       (λ i e. let r = row-found i e in rw e (has-at (s .keys) (s .values) k (s .count) i (r .below) (r .key)))
       (λ e. rw e (has-none (s .keys) (s .values) k (s .count) (row-absent e)))
 
   -- and its running value is the one in that row
-  pub value-row : runningValue k (slotRows s) ≡ valueIn s (rowOf s k)
+  pub value-row : runningValue k (slotRows s) ≡ valueIn s (keyRow s k)
   value-row =
-      cases (rowOf s k)
+      cases (keyRow s k)
       (λ i e. let r = row-found i e in rw e (value-at (s .keys) (s .values) k i (r .key) (r .before) (s .count) (r .below)))
       (λ e. rw e (value-none (s .keys) (s .values) k (s .count) (row-absent e)))
 
@@ -136,7 +136,7 @@ module _ (s : Slot) (w : Rowed s) (k : ℕ) where
   pub noted-place : (v : ℕ) → (hasKey k (slotRows s) || ltb (s .count) mostKeys) ≡ true
       → takenBy (noted s k v) ≡ taken (s .number) (s .snapshot) (note k v (slotRows s))
   noted-place v h =
-      cases (rowOf s k)
+      cases (keyRow s k)
       (λ i e.
       let r = row-found i e in
       rw (
@@ -164,7 +164,7 @@ module _ (s : Slot) (w : Rowed s) (k : ℕ) where
   -- the rows stay in order
   pub rowed-noted : (v : ℕ) → Rowed (noted s k v)
   rowed-noted v =
-      cases (rowOf s k)
+      cases (keyRow s k)
       (λ i e. rw e (record { keys = w .keys; values = rw length-set (w .values); count = w .count }))
       (λ e.
       split (ltb (s .count) mostKeys)

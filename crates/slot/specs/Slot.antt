@@ -18,8 +18,8 @@ abbrev pub emptySlot : Slot
 emptySlot = openedSlot 0 0
 
 -- the row of a key: of one key twice in a slot the first
-abbrev pub rowOf : Slot → ℕ → Found
-rowOf s k = firstRow k (take (s .count) (s .keys))
+abbrev pub keyRow : Slot → ℕ → Found
+keyRow s k = firstRow k (take (s .count) (s .keys))
 
 -- a row's value replaced
 abbrev pub revalued : Slot → ℕ → ℕ → Slot
@@ -43,4 +43,4 @@ notedAt Nothing s k v = cond (ltb (s .count) mostKeys) (extended s k v) s
 
 -- a write noted: the running value v of key k
 abbrev pub noted : Slot → ℕ → ℕ → Slot
-noted s k v = notedAt (rowOf s k) s k v
+noted s k v = notedAt (keyRow s k) s k v

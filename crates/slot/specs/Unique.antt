@@ -6,7 +6,7 @@ use lib.Count.{ones}
 use Rattle.column.specs.declared.Found.{Found}
 use Rattle.slot.specs.declared.Slot.{Slot}
 use Rattle.slot.specs.declared.Slots.{Slots}
-use Rattle.slot.specs.Slot.{emptySlot, openedSlot, rowOf, noted}
+use Rattle.slot.specs.Slot.{emptySlot, openedSlot, keyRow, noted}
 use Rattle.slot.specs.Slots.{emptySlots, slotAt, isOccupied, lowestFree, slotOf, slotsShaped, slotsHold, openedIn, notedIn, closedIn}
 
 -- the slot that `Slot::free` and `Slot::close` answer
@@ -16,7 +16,7 @@ free-unique p q = p ∙ sym q
 pub open-unique : (number snapshot : ℕ) {r s : Slot} → r ≡ openedSlot number snapshot → s ≡ openedSlot number snapshot → r ≡ s
 open-unique number snapshot p q = p ∙ sym q
 
-pub find-row-unique : (slot : Slot) (key : ℕ) {r s : Found} → r ≡ rowOf slot key → s ≡ rowOf slot key → r ≡ s
+pub find-row-unique : (slot : Slot) (key : ℕ) {r s : Found} → r ≡ keyRow slot key → s ≡ keyRow slot key → r ≡ s
 find-row-unique slot key p q = p ∙ sym q
 
 pub note-unique : (slot : Slot) (key value : ℕ) {r s : Slot} → r ≡ noted slot key value → s ≡ noted slot key value → r ≡ s

@@ -4,7 +4,7 @@ ghost use mathlib.Core.Path.{_≡_};
 ghost use Prim.Native.Nat.{ℕ, _<_};
 ghost use lib.Count.{ones};
 ghost use Rattle.rules.specs.Limits.{mostRunning, mostKeys};
-ghost use Rattle.slot.specs.Slot.{emptySlot, openedSlot, rowOf};
+ghost use Rattle.slot.specs.Slot.{emptySlot, openedSlot, keyRow};
 ghost use Rattle.slot.specs.Slot.{noted as notedSlot};
 ghost use Rattle.slot.specs.Slots.{emptySlots, slotAt, isOccupied, lowestFree, slotOf, slotsShaped, slotsHold, openedIn, notedIn, closedIn};
 ghost use Rattle.slot.specs.Formed.{Formed};
@@ -61,7 +61,7 @@ impl Slot {
 
     // The row of a key: the first below the count that has it, one of the 32 whatever the count.
     pub fn find(self, key: u32) -> Found
-        ensures { λ r. ⌜ r ≡ rowOf self key ⌝ }
+        ensures { λ r. ⌜ r ≡ keyRow self key ⌝ }
         ensures { λ r. ⌜ ((i : ℕ) → r ≡ Found.At i → i < mostKeys) ⌝ }
     {
         let keys = self.keys;

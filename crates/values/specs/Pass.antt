@@ -17,7 +17,7 @@ use Rattle.rules.specs.Transactions.{of, wrote}
 use Rattle.rules.specs.Values.{value}
 use Rattle.rules.specs.Limits.{mostRecords}
 use Rattle.rules.specs.Columns.{Rows}
-use Rattle.record.specs.Bytes.{newest}
+use Rattle.record.specs.Bytes.{recordsIn}
 use Rattle.column.specs.declared.Found.{Found}
 use Rattle.column.specs.declared.Found.the-variants.{At, Nothing}
 use Rattle.values.specs.declared.value.Settled.{Settled}
@@ -28,17 +28,17 @@ pub record Records (journal : List ℕ) (used : ℕ) : Type 0 where
   pub there : used * recordBytes ≤ length journal
 
 -- what a value over the base is read from
-pub record Lent (keys values : List ℕ) (rows : ℕ) (journal : List ℕ) (used : ℕ) : Type 0 where
+pub record Inside (keys values : List ℕ) (rows : ℕ) (journal : List ℕ) (used : ℕ) : Type 0 where
   pub base : Rows keys values rows
   pub records : Records journal used
 
 -- no record before this place writes the key
 pub record Unwritten (journal : List ℕ) (used k i : ℕ) : Type 0 where
   pub within : i ≤ used
-  pub before : wrote k (newest i journal) ≡ false
+  pub before : wrote k (recordsIn i journal) ≡ false
 
 -- so many kept updates stand in their three columns: transaction, kind and amount
-pub record Kept (transactions kinds amounts : List ℕ) (count : ℕ) : Type 0 where
+pub record Aside (transactions kinds amounts : List ℕ) (count : ℕ) : Type 0 where
   pub in-transactions : count ≤ length transactions
   pub in-kinds : count ≤ length kinds
   pub in-amounts : count ≤ length amounts
@@ -65,7 +65,7 @@ Does k rs transactions kinds amounts count =
 -- what a pass over the records comes to
 pub record Settles (start : Value) (k t : ℕ) (rs : List Record) (transactions kinds amounts : List ℕ) (s : Settled) : Type 0 where
   pub is : s .value ≡ value start k t rs
-  pub kept : Kept transactions kinds amounts (s .count)
+  pub kept : Aside transactions kinds amounts (s .count)
   pub does : Does k rs transactions kinds amounts (s .count)
 
 -- a read of k in transaction n from a snapshot, where the value of k's base row is start

@@ -7,8 +7,8 @@ ghost use Rattle.rules.specs.Kinds.{recordBytes};
 ghost use Rattle.rules.specs.Effects.{writes as writesTo};
 ghost use Rattle.rules.specs.Values.{rowValue, valueAt, value as valueIn, readIn};
 ghost use Rattle.rules.specs.Columns.{firstRows, Rows};
-ghost use Rattle.record.specs.Bytes.{newest};
-ghost use Rattle.values.specs.Pass.{Records, Lent, Kept, Unwritten, keptStep, keptEffects, Settles, readOn};
+ghost use Rattle.record.specs.Bytes.{recordsIn};
+ghost use Rattle.values.specs.Pass.{Records, Inside, Aside, Unwritten, keptStep, keptEffects, Settles, readOn};
 use column::Found;
 use journal::Journal;
 use rules::Effect;
@@ -47,7 +47,7 @@ fn kept_effects(
     n: u32,
     old: Value,
 ) -> Value
-    requires { ⌜ Kept (now transactions) (now kinds) (now amounts) count ⌝ }
+    requires { ⌜ Aside (now transactions) (now kinds) (now amounts) count ⌝ }
     ensures { λ v. ⌜ v ≡ keptEffects (now (transactions .entry)) (now (kinds .entry)) (now (amounts .entry)) n count old ⌝ }
 {
     let mut v = old;
@@ -91,8 +91,8 @@ fn settle(
     kinds: &mut [u8],
     amounts: &mut [u32],
 ) -> Settled
-    requires { ⌜ Records (now journal) used × Kept (now transactions) (now kinds) (now amounts) used ⌝ }
-    ensures { λ s. ⌜ Settles start k t (newest used (now (journal .entry))) (now (transactions .exit)) (now (kinds .exit)) (now (amounts .exit)) s ⌝ }
+    requires { ⌜ Records (now journal) used × Aside (now transactions) (now kinds) (now amounts) used ⌝ }
+    ensures { λ s. ⌜ Settles start k t (recordsIn used (now (journal .entry))) (now (transactions .exit)) (now (kinds .exit)) (now (amounts .exit)) s ⌝ }
 {
     let mut n = 0;
     let mut v = start;
@@ -116,7 +116,7 @@ fn settle(
 // The value of k at t; start is the value of its base row.
 pub fn value(journal: &[u8], used: usize, start: Value, k: u32, t: u64) -> Value
     requires { ⌜ Records (now journal) used ⌝ }
-    ensures { λ v. ⌜ v ≡ valueIn start k t (newest used (now (journal .entry))) ⌝ }
+    ensures { λ v. ⌜ v ≡ valueIn start k t (recordsIn used (now (journal .entry))) ⌝ }
 {
     if used <= Journal::FEW {
         let mut transactions = [0u32; Journal::FEW];
@@ -162,8 +162,8 @@ fn read_by(
     kinds: &mut [u8],
     amounts: &mut [u32],
 ) -> Value
-    requires { ⌜ Records (now journal) used × Kept (now transactions) (now kinds) (now amounts) used ⌝ }
-    ensures { λ v. ⌜ v ≡ readOn start (newest used (now (journal .entry))) n snapshot k ⌝ }
+    requires { ⌜ Records (now journal) used × Aside (now transactions) (now kinds) (now amounts) used ⌝ }
+    ensures { λ v. ⌜ v ≡ readOn start (recordsIn used (now (journal .entry))) n snapshot k ⌝ }
 {
     let s = settle(
         journal,
@@ -182,7 +182,7 @@ fn read_by(
 // A read of k in transaction n; start is the value of its base row.
 fn read(journal: &[u8], used: usize, start: Value, n: u32, snapshot: u64, k: u32) -> Value
     requires { ⌜ Records (now journal) used ⌝ }
-    ensures { λ v. ⌜ v ≡ readOn start (newest used (now (journal .entry))) n snapshot k ⌝ }
+    ensures { λ v. ⌜ v ≡ readOn start (recordsIn used (now (journal .entry))) n snapshot k ⌝ }
 {
     if used <= Journal::FEW {
         let mut transactions = [0u32; Journal::FEW];
@@ -238,8 +238,8 @@ pub fn value_at(
     k: u32,
     t: u64,
 ) -> Value
-    requires { ⌜ Lent (now keys) (now values) rows (now journal) used ⌝ }
-    ensures { λ v. ⌜ v ≡ valueAt (firstRows rows (now (keys .entry)) (now (values .entry))) (newest used (now (journal .entry))) t k ⌝ }
+    requires { ⌜ Inside (now keys) (now values) rows (now journal) used ⌝ }
+    ensures { λ v. ⌜ v ≡ valueAt (firstRows rows (now (keys .entry)) (now (values .entry))) (recordsIn used (now (journal .entry))) t k ⌝ }
 {
     value(journal, used, base_value(keys, values, rows, k), k, t)
 }
@@ -255,8 +255,8 @@ pub fn read_in(
     snapshot: u64,
     k: u32,
 ) -> Value
-    requires { ⌜ Lent (now keys) (now values) rows (now journal) used ⌝ }
-    ensures { λ v. ⌜ v ≡ readIn (firstRows rows (now (keys .entry)) (now (values .entry))) (newest used (now (journal .entry))) n snapshot k ⌝ }
+    requires { ⌜ Inside (now keys) (now values) rows (now journal) used ⌝ }
+    ensures { λ v. ⌜ v ≡ readIn (firstRows rows (now (keys .entry)) (now (values .entry))) (recordsIn used (now (journal .entry))) n snapshot k ⌝ }
 {
     let start = base_value(keys, values, rows, k);
     read(journal, used, start, n, snapshot, k)

@@ -8,7 +8,7 @@ use Rattle.versions.specs.declared.Version.{Version}
 use Rattle.versions.specs.Versions.{Columns, versionsOf, keptFrom}
 
 -- so many rows are lent in each column
-pub record Lent (rows : ℕ) (cs : Columns) : Type 0 where
+pub record Spans (rows : ℕ) (cs : Columns) : Type 0 where
   pub keys : rows ≤ length (cs .keys)
   pub times : rows ≤ length (cs .times)
   pub values : rows ≤ length (cs .values)

@@ -16,8 +16,8 @@ use Rattle.rules.specs.Bools.{split, or-right, or-none-left, or-none-right}
 use Rattle.rules.specs.Lists.{among}
 use Rattle.rules.specs.Listing.{Lists, listed-lists}
 use Rattle.versions.specs.declared.Version.{Version}
-use Rattle.versions.specs.Versions.{Columns, columns, versionAt, versionsOf, Best, nothing, at, better, newestStep, newest, rowOf, valueAt, later, stays, thin, keptFrom, keysOf, listAt}
-use Rattle.versions.specs.Columns.{Lent, Long, each, withVersion, column, Kept}
+use Rattle.versions.specs.Versions.{Columns, columns, versionAt, versionsOf, Best, nothing, at, better, newestStep, newest, rowOf, valueAt, later, isKept, thin, keptFrom, keysOf, listAt}
+use Rattle.versions.specs.Columns.{Spans, Long, each, withVersion, column, Kept}
 
 pub length-versions : (n : ℕ) (cs : Columns) → length (versionsOf n cs) ≡ n
 length-versions zero cs = refl
@@ -46,13 +46,13 @@ version-same {v} {w} k t u =
 pub long-self : (cs : Columns) → Long cs cs
 long-self cs = record { keys = refl; times = refl; values = refl }
 
-module _ {n : ℕ} {cs : Columns} (l : Lent n cs) where
+module _ {n : ℕ} {cs : Columns} (l : Spans n cs) where
   -- fewer rows are lent too
-  pub lent-fewer : {m : ℕ} → m ≤ n → Lent m cs
+  pub lent-fewer : {m : ℕ} → m ≤ n → Spans m cs
   lent-fewer h = record { keys = omega (arith, l .keys); times = omega (arith, l .times); values = omega (arith, l .values) }
 
   -- and so they are in columns of the same length
-  pub lent-long : {cs' : Columns} → Long cs cs' → Lent n cs'
+  pub lent-long : {cs' : Columns} → Long cs cs' → Spans n cs'
   lent-long w = record { keys = rw (w .keys) (l .keys); times = rw (w .times) (l .times); values = rw (w .values) (l .values) }
 
   module _ (change : (Version → ℕ) → List ℕ → List ℕ) where
@@ -83,7 +83,7 @@ module _ {n : ℕ} {cs : Columns} (l : Lent n cs) where
     each-row i h = version-same (h _ (cs .keys) (l .keys)) (h _ (cs .times) (l .times)) (h _ (cs .values) (l .values))
 
 -- no row is asked for
-pub none-lent : (cs : Columns) → Lent 0 cs
+pub none-lent : (cs : Columns) → Spans 0 cs
 none-lent cs = record { keys = omega arith; times = omega arith; values = omega arith }
 
 pub length-column : (field : Version → ℕ) (vs : List Version) → length (column field vs) ≡ length vs
@@ -93,7 +93,7 @@ length-column field (v ∷ older) =
     rw length-append (omega arith)
 
 -- a row appended to n rows is one version more
-pub appended-versions : (n : ℕ) (v : Version) (cs : Columns) → Lent (n + 1) cs → versionsOf (n + 1) (withVersion n v cs) ≡ v ∷ versionsOf n cs
+pub appended-versions : (n : ℕ) (v : Version) (cs : Columns) → Spans (n + 1) cs → versionsOf (n + 1) (withVersion n v cs) ≡ v ∷ versionsOf n cs
 appended-versions n v cs l =
     rw (
       add-one,
@@ -247,7 +247,7 @@ length-thin : (T : ℕ) (whole vs : List Version) → length (thin T whole vs) �
 length-thin T whole [] = omega arith
 length-thin T whole (v ∷ older) =
     let l = length-thin T whole older in
-    split (stays T whole (length older) v) (λ e. rw e (omega arith)) (λ e. rw e (omega arith))
+    split (isKept T whole (length older) v) (λ e. rw e (omega arith)) (λ e. rw e (omega arith))
 
 pub length-kept : (T n : ℕ) (cs : Columns) → length (keptFrom T (versionsOf n cs)) ≤ n
 length-kept T n cs = omega (arith, length-thin T (versionsOf n cs) (versionsOf n cs), length-versions n cs)

@@ -84,13 +84,13 @@ isRow i nothing = false
 isRow i (at j t v) = eqb i j
 
 -- a checkpoint at T keeps row i of the whole: a version after T, or its key's newest at or before T
-abbrev pub stays : ℕ → List Version → ℕ → Version → Bool
-stays T whole i v = ltb T (v .time) || isRow i (newest (v .key) T whole)
+abbrev pub isKept : ℕ → List Version → ℕ → Version → Bool
+isKept T whole i v = ltb T (v .time) || isRow i (newest (v .key) T whole)
 
 -- the versions of the whole that a checkpoint at T keeps, in order
 abbrev pub thin : ℕ → List Version → List Version → List Version
 thin T whole [] = []
-thin T whole (v ∷ older) = cond (stays T whole (length older) v) (v ∷ thin T whole older) (thin T whole older)
+thin T whole (v ∷ older) = cond (isKept T whole (length older) v) (v ∷ thin T whole older) (thin T whole older)
 
 -- what a checkpoint at T keeps
 abbrev pub keptFrom : ℕ → List Version → List Version

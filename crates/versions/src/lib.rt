@@ -10,7 +10,7 @@ ghost use Prim.Native.Nat.{_+_, _≤_, _<_, min};
 ghost use lib.Dec.{eqb};
 ghost use lib.ListN.{length};
 ghost use Rattle.versions.specs.Versions.{columns, versionsOf, valueAt};
-ghost use Rattle.versions.specs.Columns.{Lent, withVersion};
+ghost use Rattle.versions.specs.Columns.{Spans, withVersion};
 ghost use Rattle.versions.specs.Search.{some, Passed};
 use column::Found;
 use rules::Value;
@@ -80,7 +80,7 @@ fn near(i: usize, used: usize) -> usize
 
 // The value of k at t, or absent.
 pub fn value_at(keys: &[u32], times: &[u64], values: &[u32], used: usize, k: u32, t: u64) -> Value
-    requires { ⌜ Lent used (columns (now keys) (now times) (now values)) ⌝ }
+    requires { ⌜ Spans used (columns (now keys) (now times) (now values)) ⌝ }
     ensures { λ r. ⌜ r ≡ valueAt k t (versionsOf used (columns (now (keys .entry)) (now (times .entry)) (now (values .entry)))) ⌝ }
 {
     let found = search::newest_row(keys, times, used, k, t);
@@ -100,7 +100,7 @@ pub fn append(
     t: u64,
     v: u32,
 )
-    requires { ⌜ Lent (used + 1) (columns (now keys) (now times) (now values)) ⌝ }
+    requires { ⌜ Spans (used + 1) (columns (now keys) (now times) (now values)) ⌝ }
     ensures { λ _. ⌜ columns (now (keys .exit)) (now (times .exit)) (now (values .exit)) ≡ withVersion used (record { key = k; time = t; value = v }) (columns (now (keys .entry)) (now (times .entry)) (now (values .entry))) ⌝ }
 {
     keys[used] = k;

@@ -11,8 +11,8 @@ use Rattle.rules.specs.declared.Record.{Record}
 use Rattle.rules.specs.declared.Walked.{Walked}
 use Rattle.rules.specs.declared.Walked.the-variants.{Whole, BadAt}
 use Rattle.rules.specs.Bools.{split, and-left, and-right}
-use Rattle.rules.specs.Recovery.{formed as formedIn, numbered as numberedIn, timely as timelyIn, limited as limitedIn, clear as clearIn, judge, accepts, orElse, walk}
-use Rattle.record.specs.Bytes.{newest}
+use Rattle.rules.specs.Recovery.{formed as formedIn, numbered as numberedIn, timely as timelyIn, limited as limitedIn, clear as clearIn, judge, accepts, firstBad, walk}
+use Rattle.record.specs.Bytes.{recordsIn}
 
 -- every test of section 5
 pub record Judged (low : ℕ) (older : List Record) (r : Record) : Type 0 where
@@ -44,7 +44,7 @@ pub walk-bad : (low : ℕ) (r : Record) (older : List Record) → judge low olde
 walk-bad low r older j w = rw (w, j)
 
 -- and stays so, whatever stands behind it
-pub walk-stays : (low i n j : ℕ) (b : List ℕ) → i ≤ n → walk low (newest i b) ≡ BadAt j → walk low (newest n b) ≡ BadAt j
+pub walk-stays : (low i n j : ℕ) (b : List ℕ) → i ≤ n → walk low (recordsIn i b) ≡ BadAt j → walk low (recordsIn n b) ≡ BadAt j
 walk-stays low i zero j b l h = let e : i ≡ 0 = omega arith in rw e at h
 walk-stays low i (suc n) j b l h =
     split (leb i n)
@@ -52,7 +52,7 @@ walk-stays low i (suc n) j b l h =
     (λ k. let e : i ≡ suc n = omega (arith, leb-false i n k) in rw e at h)
 
 -- a walk that finds nothing here has found nothing before
-found-none : (v w : Walked) → orElse v w ≡ Whole → (v ≡ Whole) × (w ≡ Whole)
+found-none : (v w : Walked) → firstBad v w ≡ Whole → (v ≡ Whole) × (w ≡ Whole)
 found-none Whole w h = (refl, h)
 found-none (BadAt i) w h = let z : _≡_ {A = ℕ} 0 1 = cc in absurd (omega arith)
 

@@ -7,7 +7,7 @@ ghost use Rattle.rules.specs.Limits.{mostRecords, mostRunning};
 ghost use Rattle.rules.specs.Kinds.{recordBytes, isBegin, isCommit};
 ghost use Rattle.rules.specs.Transactions.{runs};
 ghost use Rattle.rules.specs.Recovery.{formed as formedIn, limited as limitedIn, clear as clearIn, judge as judgeIn, walk as walkIn};
-ghost use Rattle.record.specs.Bytes.{newest};
+ghost use Rattle.record.specs.Bytes.{recordsIn};
 ghost use Rattle.journal.specs.Past.{Past};
 ghost use Rattle.walk.specs.Walk.{started, pushed, numberedBy, timelyBy, isBlank, Without, Open, Tracks, Stepped, SnapshotOf};
 use column::Found;
@@ -181,8 +181,8 @@ fn formed(r: Record) -> bool
 
 // Whether at most 8 transactions run, and at most 32 keys are written in each.
 fn limited(journal: &[u8], i: usize, r: Record, s: State) -> bool
-    requires { ⌜ (i ≤ mostRecords) × (i * recordBytes ≤ length (now journal)) × Open (newest i (now journal)) s ⌝ }
-    ensures { λ b. ⌜ b ≡ limitedIn (newest i (now (journal .entry))) r ⌝ }
+    requires { ⌜ (i ≤ mostRecords) × (i * recordBytes ≤ length (now journal)) × Open (recordsIn i (now journal)) s ⌝ }
+    ensures { λ b. ⌜ b ≡ limitedIn (recordsIn i (now (journal .entry))) r ⌝ }
 {
     if r.kind == Record::BEGIN {
         return s.count < Journal::RUNNING;
@@ -195,8 +195,8 @@ fn limited(journal: &[u8], i: usize, r: Record, s: State) -> bool
 
 // Whether a commit does not conflict.
 fn clear(journal: &[u8], i: usize, r: Record, s: State) -> bool
-    requires { ⌜ (i ≤ mostRecords) × (i * recordBytes ≤ length (now journal)) × Open (newest i (now journal)) s × Past (s .last) (newest i (now journal)) × (isCommit r ≡ true → runs (r .transaction) (newest i (now journal)) ≡ true) ⌝ }
-    ensures { λ b. ⌜ b ≡ clearIn (newest i (now (journal .entry))) r ⌝ }
+    requires { ⌜ (i ≤ mostRecords) × (i * recordBytes ≤ length (now journal)) × Open (recordsIn i (now journal)) s × Past (s .last) (recordsIn i (now journal)) × (isCommit r ≡ true → runs (r .transaction) (recordsIn i (now journal)) ≡ true) ⌝ }
+    ensures { λ b. ⌜ b ≡ clearIn (recordsIn i (now (journal .entry))) r ⌝ }
 {
     if r.kind != Record::COMMIT {
         return true;
@@ -207,8 +207,8 @@ fn clear(journal: &[u8], i: usize, r: Record, s: State) -> bool
 
 // Whether an accepted call would write a record behind the first i.
 fn judge(journal: &[u8], i: usize, low: u64, r: Record, s: State) -> bool
-    requires { ⌜ (i ≤ mostRecords) × (i * recordBytes ≤ length (now journal)) × Tracks low (newest i (now journal)) s ⌝ }
-    ensures { λ b. ⌜ b ≡ judgeIn low (newest i (now (journal .entry))) r ⌝ }
+    requires { ⌜ (i ≤ mostRecords) × (i * recordBytes ≤ length (now journal)) × Tracks low (recordsIn i (now journal)) s ⌝ }
+    ensures { λ b. ⌜ b ≡ judgeIn low (recordsIn i (now (journal .entry))) r ⌝ }
 {
     if !formed(r) {
         return false;
@@ -228,7 +228,7 @@ fn judge(journal: &[u8], i: usize, low: u64, r: Record, s: State) -> bool
 // The place of the first record that fails, counted from 0, if there is one.
 pub fn walk(journal: &[u8], used: usize, low: u64) -> Walked
     requires { ⌜ (used ≤ mostRecords) × (used * recordBytes ≤ length (now journal)) ⌝ }
-    ensures { λ r. ⌜ r ≡ walkIn low (newest used (now (journal .entry))) ⌝ }
+    ensures { λ r. ⌜ r ≡ walkIn low (recordsIn used (now (journal .entry))) ⌝ }
 {
     let mut s = State::start(low);
     let mut i = 0;

@@ -10,7 +10,7 @@ use lib.ListN.{length, take, drop}
 use Rattle.rules.specs.declared.Record.{Record}
 use Rattle.rules.specs.Kinds.{recordBytes}
 use Rattle.rules.specs.Checkpoints.{raise}
-use Rattle.record.specs.Bytes.{recordAt, newest, bytesOf, appended}
+use Rattle.record.specs.Bytes.{recordAt, recordsIn, bytesOf, appended}
 use Rattle.record.specs.Laws.{length-appended}
 use Rattle.record.specs.Laid.{laid, drop-more, record-drop, take-appended, drop-appended}
 use Rattle.compact.specs.Compact.{keptIn, sifted, Moved}
@@ -20,7 +20,7 @@ use denote.Ref.{now}
 use Rattle.compact.proofs.keep.Statement.{statement}
 use Rattle.compact.proofs.keep.Tie as tie
 
-module _ (p : Record → Bool) (t : ℕ) (b₀ b b' : List ℕ) (i m m' : ℕ) (y : Moved (sifted p t (newest i b₀)) b₀ i m b) (s : length b ≡ length b₀)
+module _ (p : Record → Bool) (t : ℕ) (b₀ b b' : List ℕ) (i m m' : ℕ) (y : Moved (sifted p t (recordsIn i b₀)) b₀ i m b) (s : length b ≡ length b₀)
     (l : i * recordBytes + recordBytes ≤ length b₀) (r : Record) (v : Bool) (e : r ≡ recordAt b (i * recordBytes)) (d : v ≡ p r) where
   next : (i + 1) * recordBytes ≡ i * recordBytes + recordBytes
   next = omega arith
@@ -35,12 +35,12 @@ module _ (p : Record → Bool) (t : ℕ) (b₀ b b' : List ℕ) (i m m' : ℕ) (
   rest : drop ((i + 1) * recordBytes) b ≡ drop ((i + 1) * recordBytes) b₀
   rest = ap (λ (x : ℕ). drop x b) next ∙ drop-more b b₀ (i * recordBytes) recordBytes (y .back) ∙ ap (λ (x : ℕ). drop x b₀) (sym next)
 
-  stays : (r' : Record) → v ≡ true → r' ≡ raise t r → b' ≡ appended b m r' → m' ≡ m + 1 → Moved (sifted p t (newest (i + 1) b₀)) b₀ (i + 1) m' b'
+  stays : (r' : Record) → v ≡ true → r' ≡ raise t r → b' ≡ appended b m r' → m' ≡ m + 1 → Moved (sifted p t (recordsIn (i + 1) b₀)) b₀ (i + 1) m' b'
   stays r' q f g n =
       let h : m * recordBytes + recordBytes ≤ length b = omega (arith, y .few) in
-      let z : sifted p t (newest (i + 1) b₀) ≡ raise t (recordAt b₀ (i * recordBytes)) ∷ sifted p t (newest i b₀) = rw (add-one, tested true q) in
-      let w : sifted p t (newest (i + 1) b₀) ≡ r' ∷ sifted p t (newest i b₀) =
-      z ∙ ap (λ (x : Record). x ∷ sifted p t (newest i b₀)) (sym (f ∙ ap (raise t) same))
+      let z : sifted p t (recordsIn (i + 1) b₀) ≡ raise t (recordAt b₀ (i * recordBytes)) ∷ sifted p t (recordsIn i b₀) = rw (add-one, tested true q) in
+      let w : sifted p t (recordsIn (i + 1) b₀) ≡ r' ∷ sifted p t (recordsIn i b₀) =
+      z ∙ ap (λ (x : Record). x ∷ sifted p t (recordsIn i b₀)) (sym (f ∙ ap (raise t) same))
       in
       record {
         few = omega (arith, y .few);
@@ -54,9 +54,9 @@ module _ (p : Record → Bool) (t : ℕ) (b₀ b b' : List ℕ) (i m m' : ℕ) (
         back = ap (drop ((i + 1) * recordBytes)) g ∙ drop-appended b m r' h i (y .few) ∙ rest;
       }
 
-  goes : v ≡ false → b' ≡ b → m' ≡ m → Moved (sifted p t (newest (i + 1) b₀)) b₀ (i + 1) m' b'
+  goes : v ≡ false → b' ≡ b → m' ≡ m → Moved (sifted p t (recordsIn (i + 1) b₀)) b₀ (i + 1) m' b'
   goes q g n =
-      let w : sifted p t (newest (i + 1) b₀) ≡ sifted p t (newest i b₀) = rw (add-one, tested false q) in
+      let w : sifted p t (recordsIn (i + 1) b₀) ≡ sifted p t (recordsIn i b₀) = rw (add-one, tested false q) in
       record {
         few = omega (arith, y .few);
         count = n ∙ y .count ∙ sym (ap length w);
@@ -68,7 +68,7 @@ abbrev Inv-loop : tie.InvT-loop
 Inv-loop journal₀ used t running opened lates late marks alone count₀ i₀ journal count i =
     (i ≤ used)
     × (length journal ≡ length journal₀)
-    × Moved (sifted (keptIn (take opened running) (take late lates)) t (newest i journal₀)) journal₀ i count journal
+    × Moved (sifted (keptIn (take opened running) (take late lates)) t (recordsIn i journal₀)) journal₀ i count journal
 
 abbrev μ-loop : tie.MeasureT-loop
 μ-loop journal₀ used t running opened lates late marks alone count₀ i₀ journal count i = used - i

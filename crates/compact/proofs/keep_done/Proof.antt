@@ -1,7 +1,7 @@
 -- `compact::keep_done` meets its contract: what the column of the late commits keeps is what recovery keeps. Assumes nothing.
 use mathlib.Core.Path.{refl}
 use Rattle.rules.specs.Recovery.{survivors}
-use Rattle.record.specs.Bytes.{newest}
+use Rattle.record.specs.Bytes.{recordsIn}
 use Rattle.compact.specs.Laws.{survivors-column, settled}
 use borrow.Author.Needs.{needs}
 use native.Mathlib.Omega.{arith}
@@ -19,7 +19,7 @@ returns c =
     let l = k .before .before .before .before .before .before .before .before .before .before in
     let s = l .before .before .before .before in
     let a = s .args in
-    let rs = newest (a .used) (now (a .journal)) in
+    let rs = recordsIn (a .used) (now (a .journal)) in
     settled (survivors rs) _ (now (a .journal)) _ _ (a .used) _ (a .end) (k .keep .ensures)
     (survivors-column (a .low) (a .used) _ rs _ _ (s .pre .3) (l .late-numbers .ensures)) (s .pre .1) (z .zero .ensures)
 

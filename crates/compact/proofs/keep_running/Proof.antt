@@ -3,7 +3,7 @@ use mathlib.Core.Path.{refl}
 use Prim.Native.Nat.{_*_}
 use Rattle.rules.specs.Kinds.{recordBytes}
 use Rattle.rules.specs.Checkpoints.{kept}
-use Rattle.record.specs.Bytes.{newest}
+use Rattle.record.specs.Bytes.{recordsIn}
 use Rattle.compact.specs.Laws.{kept-columns, settled}
 use borrow.Author.Needs.{needs}
 use native.Mathlib.Omega.{arith}
@@ -21,7 +21,7 @@ returns c =
     let l = k .before .before .before .before .before .before .before .before .before .before in
     let o = l .before .before .before .before in
     let a = o .before .before .before .before .args in
-    let rs = newest (a .used) (now (a .journal)) in
+    let rs = recordsIn (a .used) (now (a .journal)) in
     settled (kept (a .t) rs) _ (now (a .journal)) _ _ (a .used) _ (a .used * recordBytes) (k .keep .ensures)
     (kept-columns (a .t) (a .used) _ _ rs _ _ _ _ (o .running-numbers .ensures) (l .late-numbers .ensures)) (omega arith) (z .zero .ensures)
 

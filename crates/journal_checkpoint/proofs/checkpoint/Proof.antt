@@ -16,7 +16,7 @@ use Rattle.answer.specs.declared.Done.{Done}
 use Rattle.answer.specs.declared.Refusal.the-variants.{NoRoom}
 use Rattle.answer.specs.Reply.{Reply, ofDone, refused, accepted, told}
 use Rattle.compact.specs.Compact.{compacted}
-use Rattle.values.specs.Pass.{Lent}
+use Rattle.values.specs.Pass.{Inside}
 use Rattle.journal_store.specs.declared.Head.{Head}
 use Rattle.journal_store.specs.declared.Outcome.{Outcome}
 use Rattle.journal_store.specs.Shape.{isShaped, rowRoom, meaning, Shaped, shape}
@@ -28,7 +28,7 @@ use Rattle.journal_checkpoint.proofs.checkpoint.Tie as tie
 
 -- what settle asks
 lent : (h : Head) (keys values j : List ℕ) → Shaped h (length keys) (length values) (length j)
-    → Lent keys values (h .base .rows) j (h .journal .used) × (h .base .rows ≤ 512) × (length keys ≡ length values)
+    → Inside keys values (h .base .rows) j (h .journal .used) × (h .base .rows ≤ 512) × (length keys ≡ length values)
 lent h keys values j s = (
   record {
     base = record { in-keys = s .rows; in-values = rw (← s .paired) (s .rows) };

@@ -4,7 +4,7 @@ use mathlib.Core.Bool.{Bool, true, false}
 use mathlib.Core.List.{List}
 use Prim.Native.Nat.{ℕ, _+_, _-_, _≤_, _<_}
 use lib.ListN.{getD}
-use Rattle.slot.specs.Places.{rowsOf}
+use Rattle.slot.specs.Places.{notesOf}
 use Rattle.versions.specs.declared.Version.{Version}
 use Rattle.versions.specs.Versions.{Columns, keyed, versionsOf, later}
 use Rattle.map_store.specs.Meaning.{clash}
@@ -16,14 +16,14 @@ use Rattle.map_commit.proofs.conflicts.Statement.{statement}
 use Rattle.map_commit.proofs.conflicts.Tie as tie
 
 module _ (ks vs : List ℕ) (s : ℕ) (versions : List Version) (i : ℕ) (b : Bool) (e : b ≡ later s (getD ks i 0) versions) where
-  hit : (n : ℕ) → i < n → b ≡ true → true ≡ clash s (rowsOf ks vs n) versions
+  hit : (n : ℕ) → i < n → b ≡ true → true ≡ clash s (notesOf ks vs n) versions
   hit n l t = sym (clash-among ks vs s versions (i + 1) n (omega arith) (clash-here ks vs s versions i (sym e ∙ t)))
 
-  miss : b ≡ false → clash s (rowsOf ks vs i) versions ≡ false → clash s (rowsOf ks vs (i + 1)) versions ≡ false
+  miss : b ≡ false → clash s (notesOf ks vs i) versions ≡ false → clash s (notesOf ks vs (i + 1)) versions ≡ false
   miss t h = clash-none ks vs s versions i (sym e ∙ t) h
 
 abbrev Inv-loop : tie.InvT-loop
-Inv-loop s keys times used written rows from i₀ i = (i ≤ rows) × ((others : Columns) → clash (s .snapshot) (rowsOf (s .keys) (s .values) i) (versionsOf used (keyed keys times others)) ≡ false)
+Inv-loop s keys times used written rows from i₀ i = (i ≤ rows) × ((others : Columns) → clash (s .snapshot) (notesOf (s .keys) (s .values) i) (versionsOf used (keyed keys times others)) ≡ false)
 
 abbrev μ-loop : tie.MeasureT-loop
 μ-loop s keys times used written rows from i₀ i = rows - i

@@ -5,7 +5,7 @@ use mathlib.Core.List.{List}
 use mathlib.Core.Logic.{⊎-elim}
 use Prim.Native.Nat.{ℕ, _+_, _-_, _≤_}
 use lib.ListN.{length}
-use Rattle.slot.specs.Places.{rowsOf}
+use Rattle.slot.specs.Places.{notesOf}
 use Rattle.map_store.specs.Meaning.{firsts}
 use Rattle.map_commit.specs.RowLaws.{isFirst, first-more, first-same}
 use borrow.Author.Needs.{needs}
@@ -13,15 +13,15 @@ use native.Mathlib.Omega.{arith}
 use Rattle.map_commit.proofs.count_written.Statement.{statement}
 use Rattle.map_commit.proofs.count_written.Tie as tie
 
-module _ (ks vs : List ℕ) (i n m : ℕ) (b : Bool) (e : b ≡ isFirst ks vs i) (h : n ≡ length (firsts (rowsOf ks vs i))) where
-  more : b ≡ true → m ≡ n + 1 → m ≡ length (firsts (rowsOf ks vs (i + 1)))
+module _ (ks vs : List ℕ) (i n m : ℕ) (b : Bool) (e : b ≡ isFirst ks vs i) (h : n ≡ length (firsts (notesOf ks vs i))) where
+  more : b ≡ true → m ≡ n + 1 → m ≡ length (firsts (notesOf ks vs (i + 1)))
   more t f = rw (first-more ks vs i (sym e ∙ t)) (omega arith)
 
-  same : b ≡ false → m ≡ n → m ≡ length (firsts (rowsOf ks vs (i + 1)))
+  same : b ≡ false → m ≡ n → m ≡ length (firsts (notesOf ks vs (i + 1)))
   same t f = rw (first-same ks vs i (sym e ∙ t)) (f ∙ h)
 
 abbrev Inv-loop : tie.InvT-loop
-Inv-loop s rows count₀ i₀ count i = (i ≤ rows) × (count ≤ i) × (count ≡ length (firsts (rowsOf (s .keys) (s .values) i)))
+Inv-loop s rows count₀ i₀ count i = (i ≤ rows) × (count ≤ i) × (count ≡ length (firsts (notesOf (s .keys) (s .values) i)))
 
 abbrev μ-loop : tie.MeasureT-loop
 μ-loop s rows count₀ i₀ count i = rows - i

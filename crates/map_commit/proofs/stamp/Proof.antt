@@ -5,9 +5,9 @@ use mathlib.Core.List.{List}
 use mathlib.Core.Logic.{⊎-elim}
 use Prim.Native.Nat.{ℕ, _+_, _-_, _≤_, _<_}
 use lib.ListN.{length, getD}
-use Rattle.slot.specs.Places.{Note, rowsOf}
+use Rattle.slot.specs.Places.{Note, notesOf}
 use Rattle.versions.specs.Versions.{Columns, columns}
-use Rattle.versions.specs.Columns.{Lent, Long, withVersion}
+use Rattle.versions.specs.Columns.{Spans, Long, withVersion}
 use Rattle.versions.specs.Laws.{lent-fewer, lent-long}
 use Rattle.map_store.specs.Meaning.{firsts}
 use Rattle.map_store.specs.MeaningLaws.{written-long}
@@ -24,29 +24,29 @@ long : (t used : ℕ) (rows : List Note) (cs cs' : Columns) (r : ℕ) → Stampe
 long t used rows cs cs' r w = rw (w .cells) (written-long used t rows cs)
 
 module _ (sk sv : List ℕ) (t used : ℕ) (cs : Columns) (i : ℕ) (cs₁ : Columns) (at : ℕ)
-    (w : Stamped t used (firsts (rowsOf sk sv i)) cs cs₁ at) (b : Bool) (e : b ≡ isFirst sk sv i) where
+    (w : Stamped t used (firsts (notesOf sk sv i)) cs cs₁ at) (b : Bool) (e : b ≡ isFirst sk sv i) where
   -- a row that counts has a lent row
-  room : (n : ℕ) → i < n → b ≡ true → Lent (used + length (firsts (rowsOf sk sv n))) cs → Lent (at + 1) cs₁
+  room : (n : ℕ) → i < n → b ≡ true → Spans (used + length (firsts (notesOf sk sv n))) cs → Spans (at + 1) cs₁
   room n l f p =
-      let m : length (firsts (rowsOf sk sv (i + 1))) ≤ length (firsts (rowsOf sk sv n)) = firsts-among sk sv (i + 1) n (omega arith) in
+      let m : length (firsts (notesOf sk sv (i + 1))) ≤ length (firsts (notesOf sk sv n)) = firsts-among sk sv (i + 1) n (omega arith) in
       let z = first-more sk sv i (sym e ∙ f) in
-      let y : length (firsts (rowsOf sk sv (i + 1))) ≡ length (firsts (rowsOf sk sv i)) + 1 = rw z (omega arith) in
-      lent-long (lent-fewer p (omega (arith, w .count))) (long t used (firsts (rowsOf sk sv i)) cs cs₁ at w)
+      let y : length (firsts (notesOf sk sv (i + 1))) ≡ length (firsts (notesOf sk sv i)) + 1 = rw z (omega arith) in
+      lent-long (lent-fewer p (omega (arith, w .count))) (long t used (firsts (notesOf sk sv i)) cs cs₁ at w)
 
   more : b ≡ true → (cs₂ : Columns) → cs₂ ≡ withVersion at (record { key = getD sk i 0; time = t; value = getD sv i 0 }) cs₁
-      → Stamped t used (firsts (rowsOf sk sv (i + 1))) cs cs₂ (at + 1)
+      → Stamped t used (firsts (notesOf sk sv (i + 1))) cs cs₂ (at + 1)
   more f cs₂ p =
       rw (first-more sk sv i (sym e ∙ f))
-      (stamped-more t used (firsts (rowsOf sk sv i)) (record { key = getD sk i 0; value = getD sv i 0 }) cs cs₁ cs₂ at w p)
+      (stamped-more t used (firsts (notesOf sk sv i)) (record { key = getD sk i 0; value = getD sv i 0 }) cs cs₁ cs₂ at w p)
 
-  same : b ≡ false → Stamped t used (firsts (rowsOf sk sv (i + 1))) cs cs₁ at
+  same : b ≡ false → Stamped t used (firsts (notesOf sk sv (i + 1))) cs cs₁ at
   same f = rw (first-same sk sv i (sym e ∙ f)) w
 
 abbrev Inv-loop : tie.InvT-loop
 Inv-loop s keys₀ times₀ values₀ used t written running rows at₀ i₀ keys times values at i =
     (i ≤ rows)
     × (at ≤ used + i)
-    × Stamped t used (firsts (rowsOf (s .keys) (s .values) i)) (columns keys₀ times₀ values₀) (columns keys times values) at
+    × Stamped t used (firsts (notesOf (s .keys) (s .values) i)) (columns keys₀ times₀ values₀) (columns keys times values) at
 
 abbrev μ-loop : tie.MeasureT-loop
 μ-loop s keys₀ times₀ values₀ used t written running rows at₀ i₀ keys times values at i = rows - i

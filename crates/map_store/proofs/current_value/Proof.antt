@@ -8,7 +8,7 @@ use Rattle.rules.specs.declared.Value.the-variants.{Present}
 use Rattle.column.specs.declared.Found.{Found}
 use Rattle.column.specs.declared.Found.the-variants.{At, Nothing}
 use Rattle.slot.specs.declared.Slot.{Slot}
-use Rattle.slot.specs.Slot.{rowOf}
+use Rattle.slot.specs.Slot.{keyRow}
 use Rattle.slot.specs.Formed.{Rowed}
 use Rattle.slot.specs.Places.{slotRows}
 use Rattle.slot.specs.RowLaws.{value-row}
@@ -21,7 +21,7 @@ use denote.Ref.{now}
 use Rattle.map_store.proofs.current_value.Statement.{statement}
 use Rattle.map_store.proofs.current_value.Tie as tie
 
-module _ (s : Slot) (w : Rowed s) (k : ℕ) (vs : List Version) (f : Found) (e : f ≡ rowOf s k) where
+module _ (s : Slot) (w : Rowed s) (k : ℕ) (vs : List Version) (f : Found) (e : f ≡ keyRow s k) where
   own : (i : ℕ) → f ≡ At i → Present (getD (s .values) i 0) ≡ current k (s .snapshot) (slotRows s) vs
   own i g = rw (value-row s w k, sym e ∙ g)
 

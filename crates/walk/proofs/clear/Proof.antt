@@ -9,7 +9,7 @@ use Rattle.rules.specs.Kinds.{isCommit}
 use Rattle.rules.specs.Transactions.{runs, snapshot}
 use Rattle.rules.specs.Conflicts.{conflict}
 use Rattle.rules.specs.Recovery.{clear}
-use Rattle.record.specs.Bytes.{newest}
+use Rattle.record.specs.Bytes.{recordsIn}
 use Rattle.walk.specs.declared.State.{State}
 use Rattle.walk.specs.Walk.{Open, SnapshotOf}
 use Rattle.walk.specs.Laws.{rows-run}
@@ -35,7 +35,7 @@ returns-2 c =
     let e = q .before in
     let s = e .before .before .before in
     let a = s .args in
-    commits (newest (a .i) (now (a .journal))) (a .r) (a .s) _ _ (s .pre .2) (s .pre .4) (e .if1 .left) (q .snapshot .ensures) (c .conflict .ensures)
+    commits (recordsIn (a .i) (now (a .journal))) (a .r) (a .s) _ _ (s .pre .2) (s .pre .4) (e .if1 .left) (q .snapshot .ensures) (c .conflict .ensures)
 
 pub clear-spec : {M : Type 1} → statement M
 clear-spec = tie.close (tie.spec returns (λ c κs. search needs) (λ c κs. search needs) returns-2)

@@ -6,7 +6,7 @@ use Prim.Native.Nat.{ℕ}
 use borrow.Author.Tests.{not-true, not-false}
 use Rattle.rules.specs.declared.Record.{Record}
 use Rattle.rules.specs.Recovery.{formed, limited, clear, judge}
-use Rattle.record.specs.Bytes.{newest}
+use Rattle.record.specs.Bytes.{recordsIn}
 use Rattle.walk.specs.declared.State.{State}
 use Rattle.walk.specs.Walk.{Tracks, numberedBy, timelyBy}
 use Rattle.walk.specs.Laws.{numbered-by, timely-by, past-by, commit-runs}
@@ -41,7 +41,7 @@ returns c =
     let f = c .before in
     let s = f .before .before in
     let a = s .args in
-    misformed (a .low) (newest (a .i) (now (a .journal))) (a .r) (a .s) (s .pre .2) _ (f .formed .ensures) (not-true _ (c .if1 .taken))
+    misformed (a .low) (recordsIn (a .i) (now (a .journal))) (a .r) (a .s) (s .pre .2) _ (f .formed .ensures) (not-true _ (c .if1 .taken))
 
 returns-2 : tie.Need-returns-2
 returns-2 c =
@@ -49,7 +49,7 @@ returns-2 c =
     let f = n .before .before in
     let s = f .before .before in
     let a = s .args in
-    misnumbered (a .low) (newest (a .i) (now (a .journal))) (a .r) (a .s) (s .pre .2) _ (f .formed .ensures) (not-false _ (n .before .if1 .left)) _
+    misnumbered (a .low) (recordsIn (a .i) (now (a .journal))) (a .r) (a .s) (s .pre .2) _ (f .formed .ensures) (not-false _ (n .before .if1 .left)) _
     (n .numbered .ensures) (not-true _ (c .if2 .taken))
 
 returns-3 : tie.Need-returns-3
@@ -59,7 +59,7 @@ returns-3 c =
     let f = n .before .before in
     let s = f .before .before in
     let a = s .args in
-    untimely (a .low) (newest (a .i) (now (a .journal))) (a .r) (a .s) (s .pre .2) _ (f .formed .ensures) (not-false _ (n .before .if1 .left)) _
+    untimely (a .low) (recordsIn (a .i) (now (a .journal))) (a .r) (a .s) (s .pre .2) _ (f .formed .ensures) (not-false _ (n .before .if1 .left)) _
     (n .numbered .ensures) (not-false _ (t .before .if2 .left)) _ (t .timely .ensures) (not-true _ (c .if3 .taken))
 
 limited-requires : tie.Need-limited-requires
@@ -75,7 +75,7 @@ returns-4 c =
     let f = n .before .before in
     let s = f .before .before in
     let a = s .args in
-    unlimited (a .low) (newest (a .i) (now (a .journal))) (a .r) (a .s) (s .pre .2) _ (f .formed .ensures) (not-false _ (n .before .if1 .left)) _
+    unlimited (a .low) (recordsIn (a .i) (now (a .journal))) (a .r) (a .s) (s .pre .2) _ (f .formed .ensures) (not-false _ (n .before .if1 .left)) _
     (n .numbered .ensures) (not-false _ (t .before .if2 .left)) _ (t .timely .ensures) (not-false _ (l .before .if3 .left)) _ (l .limited .ensures)
     (not-true _ (c .if4 .taken))
 
@@ -89,8 +89,8 @@ clear-requires c κs =
       s .pre .0,
       s .pre .1,
       s .pre .2 .opened,
-      past-by (a .low) (newest (a .i) (now (a .journal))) (a .r) (a .s) (s .pre .2),
-      commit-runs (a .low) (newest (a .i) (now (a .journal))) (a .r) (a .s) (s .pre .2) (sym (n .numbered .ensures) ∙ not-false _ (t .before .if2 .left)),
+      past-by (a .low) (recordsIn (a .i) (now (a .journal))) (a .r) (a .s) (s .pre .2),
+      commit-runs (a .low) (recordsIn (a .i) (now (a .journal))) (a .r) (a .s) (s .pre .2) (sym (n .numbered .ensures) ∙ not-false _ (t .before .if2 .left)),
     )
 
 returns-5 : tie.Need-returns-5
@@ -101,7 +101,7 @@ returns-5 c =
     let f = n .before .before in
     let s = f .before .before in
     let a = s .args in
-    cleared (a .low) (newest (a .i) (now (a .journal))) (a .r) (a .s) (s .pre .2) _ (f .formed .ensures) (not-false _ (n .before .if1 .left)) _
+    cleared (a .low) (recordsIn (a .i) (now (a .journal))) (a .r) (a .s) (s .pre .2) _ (f .formed .ensures) (not-false _ (n .before .if1 .left)) _
     (n .numbered .ensures) (not-false _ (t .before .if2 .left)) _ (t .timely .ensures) (not-false _ (l .before .if3 .left)) _ (l .limited .ensures)
     (not-false _ (c .before .if4 .left)) _ (c .clear .ensures)
 

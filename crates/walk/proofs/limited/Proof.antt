@@ -9,7 +9,7 @@ use Rattle.rules.specs.declared.Record.{Record}
 use Rattle.rules.specs.Kinds.{isUpdate}
 use Rattle.rules.specs.Recovery.{limited}
 use Rattle.rules.specs.Transactions.{mayWrite}
-use Rattle.record.specs.Bytes.{newest}
+use Rattle.record.specs.Bytes.{recordsIn}
 use Rattle.walk.specs.declared.State.{State}
 use Rattle.walk.specs.Walk.{Open}
 use Rattle.walk.specs.Laws.{rows-count}
@@ -34,21 +34,21 @@ returns c =
     let t = c .before in
     let s = t .before .before .before in
     let a = s .args in
-    begins (newest (a .i) (now (a .journal))) (a .r) (a .s) (s .pre .2) (t .if1 .taken)
+    begins (recordsIn (a .i) (now (a .journal))) (a .r) (a .s) (s .pre .2) (t .if1 .taken)
 
 returns-2 : tie.Need-returns-2
 returns-2 c =
     let u = c .before .before in
     let e = u .before in
     let a = e .before .before .before .args in
-    updates (newest (a .i) (now (a .journal))) (a .r) (e .if1 .left) _ (u .is-update .ensures) (c .before .if2 .taken) _ (c .may-write .ensures)
+    updates (recordsIn (a .i) (now (a .journal))) (a .r) (e .if1 .left) _ (u .is-update .ensures) (c .before .if2 .taken) _ (c .may-write .ensures)
 
 returns-3 : tie.Need-returns-3
 returns-3 c =
     let u = c .before in
     let e = u .before in
     let a = e .before .before .before .args in
-    others (newest (a .i) (now (a .journal))) (a .r) (e .if1 .left) _ (u .is-update .ensures) (c .if2 .left)
+    others (recordsIn (a .i) (now (a .journal))) (a .r) (e .if1 .left) _ (u .is-update .ensures) (c .if2 .left)
 
 pub limited-spec : {M : Type 1} → statement M
 limited-spec = tie.close (tie.spec returns (λ c κs. search needs) (λ c κs. search needs) returns-2 returns-3)

@@ -9,8 +9,8 @@ use Rattle.rules.specs.declared.Record.{Record}
 use Rattle.rules.specs.declared.Walked.the-variants.{Whole, BadAt}
 use Rattle.rules.specs.Kinds.{recordBytes}
 use Rattle.rules.specs.Recovery.{judge, walk}
-use Rattle.record.specs.Bytes.{recordAt, newest}
-use Rattle.record.specs.Laws.{length-newest}
+use Rattle.record.specs.Bytes.{recordAt, recordsIn}
+use Rattle.record.specs.Laws.{length-records}
 use Rattle.record.specs.Walks.{onward}
 use Rattle.walk.specs.declared.State.{State}
 use Rattle.walk.specs.Walk.{started, Tracks}
@@ -25,20 +25,20 @@ use Rattle.walk.proofs.walk.Tie as tie
 start : (low : ℕ) (s : State) → s ≡ started low → Tracks low [] s
 start low s e = rw e (started-tracks low)
 
-module _ (low i : ℕ) (b : List ℕ) (r : Record) (v : Bool) (e : r ≡ recordAt b (i * recordBytes)) (d : v ≡ judge low (newest i b) r)
-    (w : walk low (newest i b) ≡ Whole) where
-  stops : (used : ℕ) → i < used → v ≡ false → BadAt i ≡ walk low (newest used b)
+module _ (low i : ℕ) (b : List ℕ) (r : Record) (v : Bool) (e : r ≡ recordAt b (i * recordBytes)) (d : v ≡ judge low (recordsIn i b) r)
+    (w : walk low (recordsIn i b) ≡ Whole) where
+  stops : (used : ℕ) → i < used → v ≡ false → BadAt i ≡ walk low (recordsIn used b)
   stops used l f =
-      let found : walk low (newest (i + 1) b) ≡ BadAt i =
-      onward (λ rs. walk low rs ≡ BadAt i) b i r e (walk-bad low r (newest i b) (sym d ∙ f) w ∙ ap BadAt (length-newest i b))
+      let found : walk low (recordsIn (i + 1) b) ≡ BadAt i =
+      onward (λ rs. walk low rs ≡ BadAt i) b i r e (walk-bad low r (recordsIn i b) (sym d ∙ f) w ∙ ap BadAt (length-records i b))
       in
       sym (walk-stays low (i + 1) used i b (omega arith) found)
 
-  goes : v ≡ true → walk low (newest (i + 1) b) ≡ Whole
-  goes t = onward (λ rs. walk low rs ≡ Whole) b i r e (walk-more low r (newest i b) (sym d ∙ t) w)
+  goes : v ≡ true → walk low (recordsIn (i + 1) b) ≡ Whole
+  goes t = onward (λ rs. walk low rs ≡ Whole) b i r e (walk-more low r (recordsIn i b) (sym d ∙ t) w)
 
 abbrev Inv-loop : tie.InvT-loop
-Inv-loop journal used low s₀ i₀ s i = (i ≤ used) × Tracks low (newest i journal) s × (walk low (newest i journal) ≡ Whole)
+Inv-loop journal used low s₀ i₀ s i = (i ≤ used) × Tracks low (recordsIn i journal) s × (walk low (recordsIn i journal) ≡ Whole)
 
 abbrev μ-loop : tie.MeasureT-loop
 μ-loop journal used low s₀ i₀ s i = used - i
@@ -68,7 +68,7 @@ step-requires c κs =
     let a = rd .before .before .before .before .before .args in
     let o = l .inv .1 .opened in (
       o .few,
-      begin-room (a .low) (newest (l .i) (now (a .journal))) (rd .read .result) (l .s) (l .inv .1) (sym (j .judge .ensures) ∙ not-false _ (c .if1 .left)),
+      begin-room (a .low) (recordsIn (l .i) (now (a .journal))) (rd .read .result) (l .s) (l .inv .1) (sym (j .judge .ensures) ∙ not-false _ (c .if1 .left)),
     )
 
 loop-again : tie.Need-loop-again Inv-loop μ-loop
@@ -81,7 +81,7 @@ loop-again c =
     let t = not-false (j .judge .result) (c .before .if1 .left) in (
       omega arith,
       onward (λ rs. Tracks (a .low) rs (c .step .result)) b (l .i) (rd .read .result) (rd .read .ensures)
-          (c .step .ensures (a .low) (newest (l .i) b) (l .inv .1) (sym (j .judge .ensures) ∙ t)),
+          (c .step .ensures (a .low) (recordsIn (l .i) b) (l .inv .1) (sym (j .judge .ensures) ∙ t)),
       goes (a .low) (l .i) b (rd .read .result) _ (rd .read .ensures) (j .judge .ensures) (l .inv .2) t,
     )
 

@@ -4,7 +4,7 @@ use mathlib.Core.Logic.{⊎-elim}
 use Prim.Native.Nat.{_≤_, _-_}
 use lib.ListN.{take}
 use Rattle.rules.specs.Transactions.{any}
-use Rattle.record.specs.Bytes.{newest}
+use Rattle.record.specs.Bytes.{recordsIn}
 use Rattle.record.specs.Walks.{onward, finish}
 use Rattle.journal.specs.Walks.{any-met, any-other}
 use Rattle.journal.specs.Gathered.{metIn}
@@ -15,7 +15,7 @@ use Rattle.journal.proofs.conflicts.any_met.Statement.{statement}
 use Rattle.journal.proofs.conflicts.any_met.Tie as tie
 
 abbrev Inv-loop : tie.InvT-loop
-Inv-loop journal used keys written numbers late found₀ i₀ found i = (i ≤ used) × (found ≡ any (metIn (take written keys) (take late numbers)) (newest i journal))
+Inv-loop journal used keys written numbers late found₀ i₀ found i = (i ≤ used) × (found ≡ any (metIn (take written keys) (take late numbers)) (recordsIn i journal))
 
 abbrev μ-loop : tie.MeasureT-loop
 μ-loop journal used keys written numbers late found₀ i₀ found i = used - i
@@ -30,8 +30,8 @@ loop-again c =
       omega arith,
       onward (λ rs. c .if1 .found ≡ any p rs) j (l .i) _ (m .before .read .ensures)
           (⊎-elim
-          (λ w. any-met p (m .before .read .result) (newest (l .i) j) _ (m .is-met .ensures) _ (w .0 .taken) (w .1))
-          (λ w. any-other p (m .before .read .result) (newest (l .i) j) _ (m .is-met .ensures) _ _ (w .0 .left) (w .1) (l .inv .1))
+          (λ w. any-met p (m .before .read .result) (recordsIn (l .i) j) _ (m .is-met .ensures) _ (w .0 .taken) (w .1))
+          (λ w. any-other p (m .before .read .result) (recordsIn (l .i) j) _ (m .is-met .ensures) _ _ (w .0 .left) (w .1) (l .inv .1))
           (c .if1 .came)),
     )
 

@@ -1,6 +1,6 @@
 -- `journal::conflicts::conflict` meets its contract: with a snapshot at last nobody conflicts. Assumes nothing.
 use mathlib.Core.Path.{sym}
-use Rattle.record.specs.Bytes.{newest}
+use Rattle.record.specs.Bytes.{recordsIn}
 use Rattle.journal.specs.Past.{no-conflict-since}
 use borrow.Author.Needs.{needs}
 use denote.Ref.{now}
@@ -11,7 +11,7 @@ returns : tie.Need-returns
 returns c =
     let s = c .before .before in
     let a = s .args in
-    sym (no-conflict-since (a .last) (a .snapshot) (a .n) (newest (a .used) (now (a .journal))) (c .if1 .taken) (s .pre .2))
+    sym (no-conflict-since (a .last) (a .snapshot) (a .n) (recordsIn (a .used) (now (a .journal))) (c .if1 .taken) (s .pre .2))
 
 pub conflict-spec : {M : Type 1} → statement M
 conflict-spec = tie.close (tie.spec returns (λ c κs. search needs) (λ c. search needs))

@@ -7,7 +7,7 @@ use lib.ListN.{take}
 use Rattle.rules.specs.declared.Record.{Record}
 use Rattle.rules.specs.Transactions.{any, of, keysWritten}
 use Rattle.rules.specs.Conflicts.{conflict}
-use Rattle.record.specs.Bytes.{newest}
+use Rattle.record.specs.Bytes.{recordsIn}
 use Rattle.journal.specs.Gathered.{metIn, lates, Gathered, keys-held, late-held}
 use Rattle.journal.specs.Meets.{meets, meets-conflict}
 use borrow.Author.Needs.{needs}
@@ -34,7 +34,7 @@ returns c =
     let l = c .before .before .before .before in
     let w = l .before .before .before in
     let a = w .before .before .before .args in
-    told (a .n) (a .s) (a .used) _ _ (newest (a .used) (now (a .journal))) _ _ _ _ _ (w .keys-written .ensures) (l .late-numbers .ensures)
+    told (a .n) (a .s) (a .used) _ _ (recordsIn (a .used) (now (a .journal))) _ _ _ _ _ (w .keys-written .ensures) (l .late-numbers .ensures)
     (c .any-met .ensures)
 
 pub conflict-since-spec : {M : Type 1} → statement M

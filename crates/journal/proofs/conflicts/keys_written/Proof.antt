@@ -5,7 +5,7 @@ use mathlib.Core.Logic.{⊎-elim}
 use Prim.Native.Nat.{_≤_, _-_, _+_}
 use lib.ListN.{length, take, length-set}
 use Rattle.rules.specs.Transactions.{of, keysWritten}
-use Rattle.record.specs.Bytes.{newest}
+use Rattle.record.specs.Bytes.{recordsIn}
 use Rattle.record.specs.Walks.{onward}
 use Rattle.journal.specs.Gathered.{newKey, Gathered, gathered-none, gathered-more, gathered-same, keys-held, keys-more}
 use borrow.Author.Needs.{needs}
@@ -15,7 +15,7 @@ use Rattle.journal.proofs.conflicts.keys_written.Statement.{statement}
 use Rattle.journal.proofs.conflicts.keys_written.Tie as tie
 
 abbrev Inv-loop : tie.InvT-loop
-Inv-loop journal used n keys₀ count₀ i₀ keys count i = (i ≤ used) × (length keys ≡ length keys₀) × Gathered (keysWritten (of n (newest i journal))) i count keys₀ keys
+Inv-loop journal used n keys₀ count₀ i₀ keys count i = (i ≤ used) × (length keys ≡ length keys₀) × Gathered (keysWritten (of n (recordsIn i journal))) i count keys₀ keys
 
 abbrev μ-loop : tie.MeasureT-loop
 μ-loop journal used n keys₀ count₀ i₀ keys count i = used - i
@@ -30,7 +30,7 @@ loop-again c =
     let a = t .before .before .before .before .before .before .before .args in
     let r = t .before .before .read in
     let j = now (a .journal) in
-    let rs = newest (l .i) j in
+    let rs = recordsIn (l .i) j in
     let xs = keysWritten (of (a .n) rs) in
     let test = newKey (a .n) (take (l .count) (l .keys)) (r .result) in
     let told = keys-held (of (a .n) rs) (l .i) (l .count) (now (a .keys)) (l .keys) (l .inv .2) (r .result .key) in (

@@ -5,7 +5,7 @@ use mathlib.Core.Logic.{⊎-elim}
 use Prim.Native.Nat.{_≤_, _-_, _+_}
 use lib.ListN.{length, length-set}
 use Rattle.rules.specs.Checkpoints.{late}
-use Rattle.record.specs.Bytes.{newest}
+use Rattle.record.specs.Bytes.{recordsIn}
 use Rattle.record.specs.Walks.{onward}
 use Rattle.journal.specs.Gathered.{lates, Gathered, gathered-none, gathered-more, gathered-same}
 use borrow.Author.Needs.{needs}
@@ -15,7 +15,7 @@ use Rattle.journal.proofs.conflicts.late_numbers.Statement.{statement}
 use Rattle.journal.proofs.conflicts.late_numbers.Tie as tie
 
 abbrev Inv-loop : tie.InvT-loop
-Inv-loop journal used s numbers₀ count₀ i₀ numbers count i = (i ≤ used) × (length numbers ≡ length numbers₀) × Gathered (lates s (newest i journal)) i count numbers₀ numbers
+Inv-loop journal used s numbers₀ count₀ i₀ numbers count i = (i ≤ used) × (length numbers ≡ length numbers₀) × Gathered (lates s (recordsIn i journal)) i count numbers₀ numbers
 
 abbrev μ-loop : tie.MeasureT-loop
 μ-loop journal used s numbers₀ count₀ i₀ numbers count i = used - i
@@ -30,7 +30,7 @@ loop-again c =
     let a = t .before .before .before .before .before .before .args in
     let r = t .before .read in
     let j = now (a .journal) in
-    let xs = lates (a .s) (newest (l .i) j) in
+    let xs = lates (a .s) (recordsIn (l .i) j) in
     let test = late (a .s) (r .result) in (
       omega arith,
       ⊎-elim (λ w. rw (w .1) (simp length-set (l .inv .1))) (λ w. rw (w .1) (l .inv .1)) (c .if1 .came),

@@ -10,7 +10,7 @@ use Rattle.rules.specs.declared.Record.{Record}
 use Rattle.rules.specs.Bools.{or-right, or-false}
 use Rattle.rules.specs.Lists.{among}
 use Rattle.rules.specs.Transactions.{of, wrote, keysWritten, mayWrite}
-use Rattle.record.specs.Bytes.{newest}
+use Rattle.record.specs.Bytes.{recordsIn}
 use Rattle.journal.specs.Gathered.{Gathered, keys-held}
 use borrow.Author.Needs.{needs}
 use denote.Ref.{now}
@@ -28,14 +28,14 @@ returns : tie.Need-returns
 returns c =
     let w = c .before .before in
     let a = w .before .before .before .args in
-    few (a .n) (a .k) (a .used) _ (newest (a .used) (now (a .journal))) _ _ (w .keys-written .ensures) (c .if1 .taken)
+    few (a .n) (a .k) (a .used) _ (recordsIn (a .used) (now (a .journal))) _ _ (w .keys-written .ensures) (c .if1 .taken)
 
 returns-2 : tie.Need-returns-2
 returns-2 c =
     let e = c .before .before in
     let w = e .before .before in
     let a = w .before .before .before .args in
-    many (a .n) (a .k) (a .used) _ (newest (a .used) (now (a .journal))) _ _ (w .keys-written .ensures) (e .if1 .left) _ (c .is-in .ensures)
+    many (a .n) (a .k) (a .used) _ (recordsIn (a .used) (now (a .journal))) _ _ (w .keys-written .ensures) (e .if1 .left) _ (c .is-in .ensures)
 
 pub may-write-spec : {M : Type 1} → statement M
 may-write-spec = tie.close (tie.spec (λ c. search needs) (λ c κs. search needs) returns (λ c. search needs) (λ c κs. search needs) returns-2)

@@ -5,13 +5,13 @@ use native.Mathlib.Omega.{arith}
 use borrow.Author.Needs.{needs}
 use denote.Ref.{now}
 use Rattle.rules.specs.Times.{last, lastStep}
-use Rattle.record.specs.Bytes.{newest}
+use Rattle.record.specs.Bytes.{recordsIn}
 use Rattle.record.specs.Walks.{turn, finish}
 use Rattle.journal.proofs.times.greatest.Statement.{statement}
 use Rattle.journal.proofs.times.greatest.Tie as tie
 
 abbrev Inv-loop : tie.InvT-loop
-Inv-loop journal used low best₀ i₀ best i = (i ≤ used) × (best ≡ last low (newest i journal))
+Inv-loop journal used low best₀ i₀ best i = (i ≤ used) × (best ≡ last low (recordsIn i journal))
 
 abbrev μ-loop : tie.MeasureT-loop
 μ-loop journal used low best₀ i₀ best i = used - i

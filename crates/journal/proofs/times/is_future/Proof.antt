@@ -10,7 +10,7 @@ use Rattle.rules.specs.declared.Record.{Record}
 use Rattle.rules.specs.Bools.{split, and-left, and-right}
 use Rattle.rules.specs.Kinds.{recordBytes, isCommit}
 use Rattle.rules.specs.Times.{last, lastStep}
-use Rattle.record.specs.Bytes.{newest, recordAt}
+use Rattle.record.specs.Bytes.{recordsIn, recordAt}
 use borrow.Author.Needs.{needs}
 use native.Mathlib.Omega.{arith}
 use denote.Ref.{now}
@@ -38,13 +38,13 @@ module _ (t : ℕ) (r : Record) (l : ℕ) (b : Bool) (d : b ≡ (isCommit r && l
 
 -- the question at i, with record i - 1 in front
 turned : (low t i : ℕ) (j : List ℕ) (r : Record) → 1 ≤ i → r ≡ recordAt j ((i - 1) * recordBytes)
-    → ltb (last low (newest i j)) t ≡ ltb (lastStep r (last low (newest (i - 1) j))) t
+    → ltb (last low (recordsIn i j)) t ≡ ltb (lastStep r (last low (recordsIn (i - 1) j))) t
 turned low t i j r l e =
     let n : i ≡ suc (i - 1) = omega arith in
-    ap (λ (m : ℕ). ltb (last low (newest m j)) t) n ∙ ap (λ (x : Record). ltb (lastStep x (last low (newest (i - 1) j))) t) (sym e)
+    ap (λ (m : ℕ). ltb (last low (recordsIn m j)) t) n ∙ ap (λ (x : Record). ltb (lastStep x (last low (recordsIn (i - 1) j))) t) (sym e)
 
 abbrev Inv-loop : tie.InvT-loop
-Inv-loop journal used low t i₀ i = (i ≤ used) × (ltb (last low (newest used journal)) t ≡ ltb (last low (newest i journal)) t)
+Inv-loop journal used low t i₀ i = (i ≤ used) × (ltb (last low (recordsIn used journal)) t ≡ ltb (last low (recordsIn i journal)) t)
 
 abbrev μ-loop : tie.MeasureT-loop
 μ-loop journal used low t i₀ i = i
@@ -60,7 +60,7 @@ returns c =
     let r = m .before .read in
     sym
     (l .inv .1 ∙ turned (a .low) (a .t) (l .i) (now (a .journal)) (r .result) (omega arith) (r .ensures)
-    ∙ met (a .t) (r .result) (last (a .low) (newest (l .i - 1) (now (a .journal)))) _ (m .reaches .ensures) (c .if1 .taken))
+    ∙ met (a .t) (r .result) (last (a .low) (recordsIn (l .i - 1) (now (a .journal)))) _ (m .reaches .ensures) (c .if1 .taken))
 
 loop-again : tie.Need-loop-again Inv-loop μ-loop
 loop-again c =
@@ -70,7 +70,7 @@ loop-again c =
     let r = m .before .read in (
       omega arith,
       l .inv .1 ∙ turned (a .low) (a .t) (l .i) (now (a .journal)) (r .result) (omega arith) (r .ensures)
-          ∙ passed (a .t) (r .result) (last (a .low) (newest (l .i - 1) (now (a .journal)))) _ (m .reaches .ensures) (c .if1 .left),
+          ∙ passed (a .t) (r .result) (last (a .low) (recordsIn (l .i - 1) (now (a .journal)))) _ (m .reaches .ensures) (c .if1 .left),
     )
 
 returns-2 : tie.Need-returns-2 Inv-loop μ-loop
@@ -78,7 +78,7 @@ returns-2 c =
     let l = c .before .loop in
     let a = c .before .before .before .args in
     let z : l .i ≡ 0 = omega arith in
-    sym (l .inv .1 ∙ ap (λ (m : ℕ). ltb (last (a .low) (newest m (now (a .journal)))) (a .t)) z)
+    sym (l .inv .1 ∙ ap (λ (m : ℕ). ltb (last (a .low) (recordsIn m (now (a .journal)))) (a .t)) z)
 
 pub is-future-spec : {M : Type 1} → statement M
 is-future-spec =

@@ -4,7 +4,7 @@ use mathlib.Core.Logic.{⊎-elim}
 use Prim.Native.Nat.{_≤_, _-_}
 use Rattle.rules.specs.Transactions.{any}
 use Rattle.rules.specs.Checkpoints.{late}
-use Rattle.record.specs.Bytes.{newest}
+use Rattle.record.specs.Bytes.{recordsIn}
 use Rattle.record.specs.Walks.{onward, finish}
 use Rattle.journal.specs.Walks.{any-met, any-other}
 use borrow.Author.Needs.{needs}
@@ -14,7 +14,7 @@ use Rattle.journal.proofs.times.is_passed.Statement.{statement}
 use Rattle.journal.proofs.times.is_passed.Tie as tie
 
 abbrev Inv-loop : tie.InvT-loop
-Inv-loop journal used t found₀ i₀ found i = (i ≤ used) × (found ≡ any (late t) (newest i journal))
+Inv-loop journal used t found₀ i₀ found i = (i ≤ used) × (found ≡ any (late t) (recordsIn i journal))
 
 abbrev μ-loop : tie.MeasureT-loop
 μ-loop journal used t found₀ i₀ found i = used - i
@@ -29,8 +29,8 @@ loop-again c =
       omega arith,
       onward (λ rs. c .if1 .found ≡ any p rs) j (l .i) _ (m .before .read .ensures)
           (⊎-elim
-          (λ w. any-met p (m .before .read .result) (newest (l .i) j) _ (m .is-late .ensures) _ (w .0 .taken) (w .1))
-          (λ w. any-other p (m .before .read .result) (newest (l .i) j) _ (m .is-late .ensures) _ _ (w .0 .left) (w .1) (l .inv .1))
+          (λ w. any-met p (m .before .read .result) (recordsIn (l .i) j) _ (m .is-late .ensures) _ (w .0 .taken) (w .1))
+          (λ w. any-other p (m .before .read .result) (recordsIn (l .i) j) _ (m .is-late .ensures) _ _ (w .0 .left) (w .1) (l .inv .1))
           (c .if1 .came)),
     )
 

@@ -3,7 +3,7 @@ use mathlib.Core.Path.{sym, _∙_}
 use native.Mathlib.Omega.{arith}
 use borrow.Author.Needs.{needs}
 use denote.Ref.{now}
-use Rattle.record.specs.Bytes.{newest}
+use Rattle.record.specs.Bytes.{recordsIn}
 use Rattle.journal.specs.Past.{last-past}
 use Rattle.journal.proofs.times.last.Statement.{statement}
 use Rattle.journal.proofs.times.last.Tie as tie
@@ -13,7 +13,7 @@ returns-2 c =
     let p = c .before in
     let t = p .before in
     let a = t .before .before .args in
-    let l = last-past (a .low) _ (newest (a .used) (now (a .journal))) (t .newest-time .ensures .0) (sym (p .is-passed .ensures) ∙ c .if1 .left) in
+    let l = last-past (a .low) _ (recordsIn (a .used) (now (a .journal))) (t .newest-time .ensures .0) (sym (p .is-passed .ensures) ∙ c .if1 .left) in
     omega (arith, t .newest-time .ensures .1)
 
 pub last-spec : {M : Type 1} → statement M

@@ -11,19 +11,19 @@ use denote.Ref.{now}
 use Rattle.rules.specs.declared.Record.{Record}
 use Rattle.rules.specs.Kinds.{recordBytes, isCommit}
 use Rattle.rules.specs.Times.{last, lastStep}
-use Rattle.record.specs.Bytes.{recordAt, newest}
+use Rattle.record.specs.Bytes.{recordAt, recordsIn}
 use Rattle.journal.specs.Past.{past-last, past-at, low-last}
 use Rattle.journal.proofs.times.newest_time.Statement.{statement}
 use Rattle.journal.proofs.times.newest_time.Tie as tie
 
 -- the commit at a place
 found : (j : List ℕ) (used low i : ℕ) (r : Record) (t : ℕ) → i < used → r ≡ recordAt j (i * recordBytes) → r .kind ≡ 4 → t ≡ lastStep r low
-    → (low ≤ t) × (t ≤ last low (newest used j))
+    → (low ≤ t) × (t ≤ last low (recordsIn used j))
 found j used low i r t h e k f =
     let c : isCommit r ≡ true = eq-eqb (r .kind) 4 k in
-    let p = past-at (last low (newest used j)) i used j (past-last low (newest used j)) h (sym (ap isCommit e) ∙ c) in
-    let l : r .time ≤ last low (newest used j) = omega (arith, p, ap (λ (x : Record). x .time) e) in
-    rw (f, c) (le-max-left low (r .time), max-le (low-last low (newest used j)) l)
+    let p = past-at (last low (recordsIn used j)) i used j (past-last low (recordsIn used j)) h (sym (ap isCommit e) ∙ c) in
+    let l : r .time ≤ last low (recordsIn used j) = omega (arith, p, ap (λ (x : Record). x .time) e) in
+    rw (f, c) (le-max-left low (r .time), max-le (low-last low (recordsIn used j)) l)
 
 abbrev Inv-loop : tie.InvT-loop
 Inv-loop journal used low i₀ i = i ≤ used
@@ -41,7 +41,7 @@ returns c =
 returns-2 : tie.Need-returns-2 Inv-loop μ-loop
 returns-2 c =
     let a = c .before .before .before .args in
-    (omega arith, low-last (a .low) (newest (a .used) (now (a .journal))))
+    (omega arith, low-last (a .low) (recordsIn (a .used) (now (a .journal))))
 
 pub newest-time-spec : {M : Type 1} → statement M
 newest-time-spec =

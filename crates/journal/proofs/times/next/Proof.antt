@@ -7,13 +7,13 @@ use native.Mathlib.Nat.{min-eq-left, min-eq-right}
 use borrow.Author.Needs.{needs}
 use denote.Ref.{now}
 use Rattle.rules.specs.Times.{above, aboveStep}
-use Rattle.record.specs.Bytes.{newest}
+use Rattle.record.specs.Bytes.{recordsIn}
 use Rattle.record.specs.Walks.{turn, finish}
 use Rattle.journal.proofs.times.next.Statement.{statement}
 use Rattle.journal.proofs.times.next.Tie as tie
 
 abbrev Inv-loop : tie.InvT-loop
-Inv-loop journal used floor best₀ i₀ best i = (i ≤ used) × (best ≤ 4294967296) × (best ≡ above floor (newest i journal))
+Inv-loop journal used floor best₀ i₀ best i = (i ≤ used) × (best ≤ 4294967296) × (best ≡ above floor (recordsIn i journal))
 
 abbrev μ-loop : tie.MeasureT-loop
 μ-loop journal used floor best₀ i₀ best i = used - i

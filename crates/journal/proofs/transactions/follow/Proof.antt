@@ -5,14 +5,14 @@ use native.Mathlib.Omega.{arith}
 use borrow.Author.Needs.{needs}
 use denote.Ref.{now}
 use Rattle.rules.specs.Transactions.{of}
-use Rattle.record.specs.Bytes.{newest}
+use Rattle.record.specs.Bytes.{recordsIn}
 use Rattle.record.specs.Walks.{turn, finish}
 use Rattle.journal.specs.Walks.{traced, traceOf, trace-more}
 use Rattle.journal.proofs.transactions.follow.Statement.{statement}
 use Rattle.journal.proofs.transactions.follow.Tie as tie
 
 abbrev Inv-loop : tie.InvT-loop
-Inv-loop journal used n trace₀ i₀ trace i = (i ≤ used) × (trace ≡ traceOf (of n (newest i journal)))
+Inv-loop journal used n trace₀ i₀ trace i = (i ≤ used) × (trace ≡ traceOf (of n (recordsIn i journal)))
 
 abbrev μ-loop : tie.MeasureT-loop
 μ-loop journal used n trace₀ i₀ trace i = used - i

@@ -4,7 +4,7 @@ use mathlib.Core.Logic.{⊎-elim}
 use Prim.Native.Nat.{_≤_, _-_}
 use Rattle.rules.specs.Transactions.{any}
 use Rattle.rules.specs.Checkpoints.{heldBy}
-use Rattle.record.specs.Bytes.{newest}
+use Rattle.record.specs.Bytes.{recordsIn}
 use Rattle.record.specs.Walks.{onward, finish}
 use Rattle.journal.specs.Walks.{any-met, any-other}
 use borrow.Author.Needs.{needs}
@@ -14,7 +14,7 @@ use Rattle.journal.proofs.transactions.held.Statement.{statement}
 use Rattle.journal.proofs.transactions.held.Tie as tie
 
 abbrev Inv-loop : tie.InvT-loop
-Inv-loop journal used t found₀ i₀ found i = (i ≤ used) × (found ≡ any (heldBy t (newest used journal)) (newest i journal))
+Inv-loop journal used t found₀ i₀ found i = (i ≤ used) × (found ≡ any (heldBy t (recordsIn used journal)) (recordsIn i journal))
 
 abbrev μ-loop : tie.MeasureT-loop
 μ-loop journal used t found₀ i₀ found i = used - i
@@ -25,12 +25,12 @@ loop-again c =
     let l = m .before .before .before .loop in
     let a = m .before .before .before .before .before .args in
     let j = now (a .journal) in
-    let p = heldBy (a .t) (newest (a .used) j) in (
+    let p = heldBy (a .t) (recordsIn (a .used) j) in (
       omega arith,
       onward (λ rs. c .if1 .found ≡ any p rs) j (l .i) _ (m .before .read .ensures)
           (⊎-elim
-          (λ w. any-met p (m .before .read .result) (newest (l .i) j) _ (m .is-held .ensures) _ (w .0 .taken) (w .1))
-          (λ w. any-other p (m .before .read .result) (newest (l .i) j) _ (m .is-held .ensures) _ _ (w .0 .left) (w .1) (l .inv .1))
+          (λ w. any-met p (m .before .read .result) (recordsIn (l .i) j) _ (m .is-held .ensures) _ (w .0 .taken) (w .1))
+          (λ w. any-other p (m .before .read .result) (recordsIn (l .i) j) _ (m .is-held .ensures) _ _ (w .0 .left) (w .1) (l .inv .1))
           (c .if1 .came)),
     )
 
@@ -38,7 +38,7 @@ returns : tie.Need-returns Inv-loop μ-loop
 returns c =
     let l = c .before .loop in
     let a = c .before .before .before .args in
-    finish (any (heldBy (a .t) (newest (a .used) (now (a .journal))))) (now (a .journal)) (l .i) (a .used) _ (l .inv .1) (omega arith)
+    finish (any (heldBy (a .t) (recordsIn (a .used) (now (a .journal))))) (now (a .journal)) (l .i) (a .used) _ (l .inv .1) (omega arith)
 
 pub held-spec : {M : Type 1} → statement M
 held-spec =

@@ -10,7 +10,7 @@ use Rattle.rules.specs.Bools.{and-false}
 use Rattle.rules.specs.Kinds.{isEnd}
 use Rattle.rules.specs.Transactions.{any, of}
 use Rattle.rules.specs.Checkpoints.{heldBy}
-use Rattle.record.specs.Bytes.{newest}
+use Rattle.record.specs.Bytes.{recordsIn}
 use Rattle.journal.specs.declared.transactions.Trace.{Trace}
 use Rattle.journal.specs.Walks.{traceOf}
 use Rattle.journal.specs.Ends.{ended-behind}
@@ -38,7 +38,7 @@ returns-2 c =
     let g = c .before in
     let s = g .before .before .before .before in
     let a = s .args in
-    gone (a .t) (newest (a .used) (now (a .journal))) (a .r)
+    gone (a .t) (recordsIn (a .used) (now (a .journal))) (a .r)
     (ended-behind (a .r .transaction) (now (a .journal)) (a .i) (a .used) (s .pre .1) _ (g .is-ended .ensures) (c .if2 .taken))
 
 returns-3 : tie.Need-returns-3
@@ -47,7 +47,7 @@ returns-3 c =
     let f = i .before .before .before in
     let o = f .before .before .before in
     let a = o .before .before .before .args in
-    told (a .t) (newest (a .used) (now (a .journal))) (a .r) _ (o .if1 .left) (f .follow .ensures) true false (i .before .before .if3 .taken)
+    told (a .t) (recordsIn (a .used) (now (a .journal))) (a .r) _ (o .if1 .left) (f .follow .ensures) true false (i .before .before .if3 .taken)
     (not-true _ (i .if4 .taken))
 
 returns-4 : tie.Need-returns-4
@@ -55,7 +55,7 @@ returns-4 c =
     let f = c .before .before .before in
     let o = f .before .before .before in
     let a = o .before .before .before .args in
-    told (a .t) (newest (a .used) (now (a .journal))) (a .r) _ (o .if1 .left) (f .follow .ensures) true true (c .before .before .if3 .taken)
+    told (a .t) (recordsIn (a .used) (now (a .journal))) (a .r) _ (o .if1 .left) (f .follow .ensures) true true (c .before .before .if3 .taken)
     (not-false _ (c .if4 .left))
 
 returns-5 : tie.Need-returns-5
@@ -63,7 +63,7 @@ returns-5 c =
     let f = c .before in
     let o = f .before .before .before in
     let a = o .before .before .before .args in
-    told (a .t) (newest (a .used) (now (a .journal))) (a .r) (f .follow .result) (o .if1 .left) (f .follow .ensures) false (f .follow .result .ended)
+    told (a .t) (recordsIn (a .used) (now (a .journal))) (a .r) (f .follow .result) (o .if1 .left) (f .follow .ensures) false (f .follow .result .ended)
     (c .if3 .left) refl
 
 pub is-held-spec : {M : Type 1} → statement M

@@ -9,7 +9,7 @@ use Rattle.rules.specs.declared.Record.{Record}
 use Rattle.rules.specs.Bools.{and-false}
 use Rattle.rules.specs.Kinds.{isBegin, isEnd}
 use Rattle.rules.specs.Transactions.{any, of, opens}
-use Rattle.record.specs.Bytes.{newest}
+use Rattle.record.specs.Bytes.{recordsIn}
 use Rattle.journal.specs.declared.transactions.Trace.{Trace}
 use Rattle.journal.specs.Walks.{traceOf}
 use Rattle.journal.specs.Ends.{none-of, ended-behind, ended-before}
@@ -41,7 +41,7 @@ returns-2 c =
     let s = g .before .before .before .before in
     let a = s .args in
     let j = now (a .journal) in
-    ended (newest (a .used) j) (newest (a .i) j) (a .r) (g .before .if1 .left)
+    ended (recordsIn (a .used) j) (recordsIn (a .i) j) (a .r) (g .before .if1 .left)
     (ended-behind (a .r .transaction) j (a .i) (a .used) (s .pre .1) _ (g .is-ended .ensures) (c .if2 .taken))
 
 returns-3 : tie.Need-returns-3
@@ -51,9 +51,9 @@ returns-3 c =
     let s = g .before .before .before .before in
     let a = s .args in
     let j = now (a .journal) in
-    first (newest (a .used) j) (newest (a .i) j) (a .r) (g .before .if1 .left)
+    first (recordsIn (a .used) j) (recordsIn (a .i) j) (a .r) (g .before .if1 .left)
     (ended-before (a .r .transaction) j (a .i) (a .used) (s .pre .1) _ (g .is-ended .ensures) (n .if2 .left))
-    (none-of (a .r .transaction) (newest (a .i) j) (rw (s .pre .2) at (c .if3 .taken)))
+    (none-of (a .r .transaction) (recordsIn (a .i) j) (rw (s .pre .2) at (c .if3 .taken)))
 
 returns-4 : tie.Need-returns-4
 returns-4 c =
@@ -63,7 +63,7 @@ returns-4 c =
     let s = g .before .before .before .before in
     let a = s .args in
     let j = now (a .journal) in
-    begun (newest (a .used) j) (newest (a .i) j) (a .r) (g .before .if1 .left)
+    begun (recordsIn (a .used) j) (recordsIn (a .i) j) (a .r) (g .before .if1 .left)
     (ended-before (a .r .transaction) j (a .i) (a .used) (s .pre .1) _ (g .is-ended .ensures) (n .if2 .left))
     (f .follow .result) (f .follow .ensures) (c .if4 .taken)
 
@@ -75,7 +75,7 @@ returns-5 c =
     let s = g .before .before .before .before in
     let a = s .args in
     let j = now (a .journal) in
-    fresh (newest (a .used) j) (newest (a .i) j) (a .r) (g .before .if1 .left)
+    fresh (recordsIn (a .used) j) (recordsIn (a .i) j) (a .r) (g .before .if1 .left)
     (ended-before (a .r .transaction) j (a .i) (a .used) (s .pre .1) _ (g .is-ended .ensures) (n .if2 .left))
     (f .follow .result) (f .follow .ensures) (c .before .if4 .left)
 

@@ -6,7 +6,7 @@ use Prim.Native.Nat.{ℕ, _≤_, _-_, _+_, max}
 use lib.ListN.{length, length-set}
 use Rattle.rules.specs.declared.Record.{Record}
 use Rattle.rules.specs.Transactions.{opens, runningIn}
-use Rattle.record.specs.Bytes.{newest}
+use Rattle.record.specs.Bytes.{recordsIn}
 use Rattle.record.specs.Walks.{onward, turn}
 use Rattle.journal.specs.Ends.{top}
 use Rattle.journal.specs.Gathered.{Gathered, gathered-none, gathered-more, gathered-same}
@@ -18,7 +18,7 @@ use Rattle.journal.proofs.transactions.running_numbers.Tie as tie
 
 abbrev Inv-loop : tie.InvT-loop
 Inv-loop journal used numbers₀ count₀ top₀ i₀ numbers count most i =
-    (i ≤ used) × (length numbers ≡ length numbers₀) × (most ≡ top (newest i journal)) × Gathered (runningIn (newest used journal) (newest i journal)) i count numbers₀ numbers
+    (i ≤ used) × (length numbers ≡ length numbers₀) × (most ≡ top (recordsIn i journal)) × Gathered (runningIn (recordsIn used journal) (recordsIn i journal)) i count numbers₀ numbers
 
 abbrev μ-loop : tie.MeasureT-loop
 μ-loop journal used numbers₀ count₀ top₀ i₀ numbers count most i = used - i
@@ -35,8 +35,8 @@ loop-again c =
     let a = s .args in
     let r = t .before .read in
     let j = now (a .journal) in
-    let rs = newest (l .i) j in
-    let whole = newest (a .used) j in
+    let rs = recordsIn (l .i) j in
+    let whole = recordsIn (a .used) j in
     let test = opens whole (r .result) rs in (
       omega arith,
       ⊎-elim (λ w. rw (w .1) (simp length-set (l .inv .1))) (λ w. rw (w .1) (l .inv .1)) (n .if1 .came),

@@ -2,7 +2,7 @@
 use mathlib.Core.Path.{_≡_, sym, _∙_}
 use borrow.Author.Tests.{not-true, not-false}
 use lib.ListN.{length}
-use Rattle.record.specs.Laws.{length-newest}
+use Rattle.record.specs.Laws.{length-records}
 use Rattle.journal_store.specs.Shape.{roomOf, meaning}
 use Rattle.journal_store.specs.Tests.{abort-unknown, abort-room, abort-done}
 use borrow.Author.Needs.{needs}
@@ -22,7 +22,7 @@ returns-2 c =
     let e1 = rm .before in
     let rn = e1 .before in
     let a = rn .before .before .before .before .args in
-    abort-room (roomOf (length (now (a .journal)))) (meaning (a .h) (now (a .keys)) (now (a .values)) (now (a .journal))) (a .n) _ (rn .runs .ensures) (not-false _ (e1 .if1 .left)) (a .h .journal .used) (length-newest (a .h .journal .used) (now (a .journal)))
+    abort-room (roomOf (length (now (a .journal)))) (meaning (a .h) (now (a .keys)) (now (a .values)) (now (a .journal))) (a .n) _ (rn .runs .ensures) (not-false _ (e1 .if1 .left)) (a .h .journal .used) (length-records (a .h .journal .used) (now (a .journal)))
     (rw (rm .room .ensures) at (c .if2 .taken))
 
 returns-3 : tie.Need-returns-3
@@ -31,7 +31,7 @@ returns-3 c =
     let e1 = rm .before in
     let rn = e1 .before in
     let a = rn .before .before .before .before .args in
-    abort-done (roomOf (length (now (a .journal)))) (meaning (a .h) (now (a .keys)) (now (a .values)) (now (a .journal))) (a .n) _ (rn .runs .ensures) (not-false _ (e1 .if1 .left)) (a .h .journal .used) (length-newest (a .h .journal .used) (now (a .journal)))
+    abort-done (roomOf (length (now (a .journal)))) (meaning (a .h) (now (a .keys)) (now (a .values)) (now (a .journal))) (a .n) _ (rn .runs .ensures) (not-false _ (e1 .if1 .left)) (a .h .journal .used) (length-records (a .h .journal .used) (now (a .journal)))
     (rw (rm .room .ensures) at (c .if2 .left))
 
 pub decide-spec : {M : Type 1} → statement M

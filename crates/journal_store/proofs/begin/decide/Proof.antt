@@ -4,7 +4,7 @@ use Prim.Native.Nat.{ℕ}
 use lib.ListN.{length}
 use Rattle.rules.specs.declared.Value.the-variants.{Present}
 use Rattle.answer.specs.Reply.{accepted}
-use Rattle.record.specs.Laws.{length-newest}
+use Rattle.record.specs.Laws.{length-records}
 use Rattle.journal_store.specs.Shape.{roomOf, meaning}
 use Rattle.journal_store.specs.Tests.{begin-old, begin-future, begin-many, begin-numbers, begin-room, begin-begun}
 use borrow.Author.Needs.{needs}
@@ -58,7 +58,7 @@ returns-5 c =
     let e1 = la .before in
     let a = e1 .before .before .before .before .before .args in
     begin-room (roomOf (length (now (a .journal)))) (meaning (a .h) (now (a .keys)) (now (a .values)) (now (a .journal))) (a .t) (e1 .if1 .left) _ (la .is-future .ensures) (e2 .if2 .left) _
-    (cr .count-running .ensures .count) (e3 .if3 .left) _ (nx .next .ensures) (e4 .if4 .left) (a .h .journal .used) (length-newest (a .h .journal .used) (now (a .journal)))
+    (cr .count-running .ensures .count) (e3 .if3 .left) _ (nx .next .ensures) (e4 .if4 .left) (a .h .journal .used) (length-records (a .h .journal .used) (now (a .journal)))
     (rw (rm .room .ensures) at (c .if5 .taken))
 
 returns-6 : tie.Need-returns-6
@@ -75,7 +75,7 @@ returns-6 c =
     let s = meaning (a .h) (now (a .keys)) (now (a .values)) (now (a .journal)) in
     ap (λ (n : ℕ). accepted (Present n)) (nx .next .ensures)
     ∙ begin-begun (roomOf (length (now (a .journal)))) s (a .t) (e1 .if1 .left) _ (la .is-future .ensures) (e2 .if2 .left) _
-    (cr .count-running .ensures .count) (e3 .if3 .left) _ (nx .next .ensures) (e4 .if4 .left) (a .h .journal .used) (length-newest (a .h .journal .used) (now (a .journal)))
+    (cr .count-running .ensures .count) (e3 .if3 .left) _ (nx .next .ensures) (e4 .if4 .left) (a .h .journal .used) (length-records (a .h .journal .used) (now (a .journal)))
     (rw (rm .room .ensures) at (c .if5 .left))
 
 pub decide-spec : {M : Type 1} → statement M

@@ -5,8 +5,8 @@ use borrow.Author.Tests.{not-true, not-false}
 use lib.ListN.{length}
 use Rattle.rules.specs.Transactions.{any, of}
 use Rattle.rules.specs.Conflicts.{conflict}
-use Rattle.record.specs.Bytes.{newest}
-use Rattle.record.specs.Laws.{length-newest}
+use Rattle.record.specs.Bytes.{recordsIn}
+use Rattle.record.specs.Laws.{length-records}
 use Rattle.journal.specs.declared.transactions.Trace.{Trace}
 use Rattle.journal.specs.Past.{past-last}
 use Rattle.journal_store.specs.Shape.{roomOf, meaning}
@@ -21,7 +21,7 @@ returns c =
     let rn = c .before in
     let fo = rn .before in
     let a = fo .before .before .before .before .args in
-    let rs = newest (a .h .journal .used) (now (a .journal)) in
+    let rs = recordsIn (a .h .journal .used) (now (a .journal)) in
     let ru = rn .runs .ensures ∙ ap (λ (x : Trace). x .begun && not (x .ended)) (fo .follow .ensures) in
     commit-unknown (roomOf (length (now (a .journal)))) (meaning (a .h) (now (a .keys)) (now (a .values)) (now (a .journal))) (a .n) _ ru (a .t) (not-true _ (c .if1 .taken))
 
@@ -32,7 +32,7 @@ returns-2 c =
     let rn = e1 .before in
     let fo = rn .before in
     let a = fo .before .before .before .before .args in
-    let rs = newest (a .h .journal .used) (now (a .journal)) in
+    let rs = recordsIn (a .h .journal .used) (now (a .journal)) in
     let ru = rn .runs .ensures ∙ ap (λ (x : Trace). x .begun && not (x .ended)) (fo .follow .ensures) in
     commit-later (roomOf (length (now (a .journal)))) (meaning (a .h) (now (a .keys)) (now (a .values)) (now (a .journal))) (a .n) _ ru (not-false _ (e1 .if1 .left)) (a .t) _ (la .last .ensures)
     (c .if2 .taken)
@@ -44,7 +44,7 @@ conflict-requires c κs =
     let fo = e1 .before .before in
     let s = fo .before .before .before .before in
     let a = s .args in
-    (s .pre .usedLimit, s .pre .used, rw (la .last .ensures) (past-last (a .h .low) (newest (a .h .journal .used) (now (a .journal)))))
+    (s .pre .usedLimit, s .pre .used, rw (la .last .ensures) (past-last (a .h .low) (recordsIn (a .h .journal .used) (now (a .journal)))))
 
 returns-3 : tie.Need-returns-3
 returns-3 c =
@@ -55,7 +55,7 @@ returns-3 c =
     let rn = e1 .before in
     let fo = rn .before in
     let a = fo .before .before .before .before .args in
-    let rs = newest (a .h .journal .used) (now (a .journal)) in
+    let rs = recordsIn (a .h .journal .used) (now (a .journal)) in
     let ru = rn .runs .ensures ∙ ap (λ (x : Trace). x .begun && not (x .ended)) (fo .follow .ensures) in
     commit-conflict (roomOf (length (now (a .journal)))) (meaning (a .h) (now (a .keys)) (now (a .values)) (now (a .journal))) (a .n) _ ru (not-false _ (e1 .if1 .left)) (a .t) _ (la .last .ensures)
     (e2 .if2 .left) _ (co .conflict .ensures ∙ ap (λ (x : Trace). conflict (a .n) (x .snapshot) rs) (fo .follow .ensures)) (c .if3 .taken)
@@ -71,10 +71,10 @@ returns-4 c =
     let rn = e1 .before in
     let fo = rn .before in
     let a = fo .before .before .before .before .args in
-    let rs = newest (a .h .journal .used) (now (a .journal)) in
+    let rs = recordsIn (a .h .journal .used) (now (a .journal)) in
     let ru = rn .runs .ensures ∙ ap (λ (x : Trace). x .begun && not (x .ended)) (fo .follow .ensures) in
     commit-room (roomOf (length (now (a .journal)))) (meaning (a .h) (now (a .keys)) (now (a .values)) (now (a .journal))) (a .n) _ ru (not-false _ (e1 .if1 .left)) (a .t) _ (la .last .ensures)
-    (e2 .if2 .left) _ (co .conflict .ensures ∙ ap (λ (x : Trace). conflict (a .n) (x .snapshot) rs) (fo .follow .ensures)) (e3 .if3 .left) (a .h .journal .used) (length-newest (a .h .journal .used) (now (a .journal))) (rw (rm .room .ensures) at (c .if4 .taken))
+    (e2 .if2 .left) _ (co .conflict .ensures ∙ ap (λ (x : Trace). conflict (a .n) (x .snapshot) rs) (fo .follow .ensures)) (e3 .if3 .left) (a .h .journal .used) (length-records (a .h .journal .used) (now (a .journal))) (rw (rm .room .ensures) at (c .if4 .taken))
 
 returns-5 : tie.Need-returns-5
 returns-5 c =
@@ -87,10 +87,10 @@ returns-5 c =
     let rn = e1 .before in
     let fo = rn .before in
     let a = fo .before .before .before .before .args in
-    let rs = newest (a .h .journal .used) (now (a .journal)) in
+    let rs = recordsIn (a .h .journal .used) (now (a .journal)) in
     let ru = rn .runs .ensures ∙ ap (λ (x : Trace). x .begun && not (x .ended)) (fo .follow .ensures) in
     commit-done (roomOf (length (now (a .journal)))) (meaning (a .h) (now (a .keys)) (now (a .values)) (now (a .journal))) (a .n) _ ru (not-false _ (e1 .if1 .left)) (a .t) _ (la .last .ensures)
-    (e2 .if2 .left) _ (co .conflict .ensures ∙ ap (λ (x : Trace). conflict (a .n) (x .snapshot) rs) (fo .follow .ensures)) (e3 .if3 .left) (a .h .journal .used) (length-newest (a .h .journal .used) (now (a .journal))) (rw (rm .room .ensures) at (c .if4 .left))
+    (e2 .if2 .left) _ (co .conflict .ensures ∙ ap (λ (x : Trace). conflict (a .n) (x .snapshot) rs) (fo .follow .ensures)) (e3 .if3 .left) (a .h .journal .used) (length-records (a .h .journal .used) (now (a .journal))) (rw (rm .room .ensures) at (c .if4 .left))
 
 pub decide-spec : {M : Type 1} → statement M
 decide-spec =

@@ -6,7 +6,7 @@ use borrow.Author.Tests.{not-true, not-false}
 use Rattle.rules.specs.Transactions.{of}
 use Rattle.rules.specs.Values.{readIn}
 use Rattle.rules.specs.Columns.{firstRows}
-use Rattle.record.specs.Bytes.{newest}
+use Rattle.record.specs.Bytes.{recordsIn}
 use Rattle.journal.specs.declared.transactions.Trace.{Trace}
 use Rattle.journal_store.specs.Shape.{meaning}
 use Rattle.journal_store.specs.Laws.{read-unknown, read-key, read-value}
@@ -37,7 +37,7 @@ returns-3 c =
     let fo = ru .before in
     let a = fo .before .before .before .before .args in
     let base = firstRows (a .h .base .rows) (now (a .keys)) (now (a .values)) in
-    let rs = newest (a .h .journal .used) (now (a .journal)) in
+    let rs = recordsIn (a .h .journal .used) (now (a .journal)) in
     read-value (a .n) (a .k) (meaning (a .h) (now (a .keys)) (now (a .values)) (now (a .journal))) _ (ru .runs .ensures ∙ ap (λ (t : Trace). t .begun && not (t .ended)) (fo .follow .ensures))
     (not-false _ (e2 .before .if1 .left)) (e2 .if2 .left) _
     (c .read-in .ensures ∙ ap (λ (t : Trace). readIn base rs (a .n) (t .snapshot) (a .k)) (fo .follow .ensures))

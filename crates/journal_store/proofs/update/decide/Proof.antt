@@ -2,7 +2,7 @@
 use mathlib.Core.Path.{_≡_, sym, _∙_}
 use borrow.Author.Tests.{not-true, not-false}
 use lib.ListN.{length}
-use Rattle.record.specs.Laws.{length-newest}
+use Rattle.record.specs.Laws.{length-records}
 use Rattle.journal_store.specs.Shape.{roomOf, meaning}
 use Rattle.journal_store.specs.Tests.{update-unknown, update-key, update-full, update-room, update-done}
 use borrow.Author.Needs.{needs}
@@ -44,7 +44,7 @@ returns-4 c =
     let rn = e1 .before in
     let a = rn .before .before .before .before .args in
     update-room (roomOf (length (now (a .journal)))) (meaning (a .h) (now (a .keys)) (now (a .values)) (now (a .journal))) (a .n) _ (rn .runs .ensures) (not-false _ (e1 .if1 .left)) (a .k) (a .e) (e2 .if2 .left) _
-    (mw .may-write .ensures) (not-false _ (e3 .if3 .left)) _ (cr .count-running .ensures .count) (a .h .journal .used) (length-newest (a .h .journal .used) (now (a .journal)))
+    (mw .may-write .ensures) (not-false _ (e3 .if3 .left)) _ (cr .count-running .ensures .count) (a .h .journal .used) (length-records (a .h .journal .used) (now (a .journal)))
     (rw (rm .room .ensures) at (c .if4 .taken))
 
 returns-5 : tie.Need-returns-5
@@ -58,7 +58,7 @@ returns-5 c =
     let rn = e1 .before in
     let a = rn .before .before .before .before .args in
     update-done (roomOf (length (now (a .journal)))) (meaning (a .h) (now (a .keys)) (now (a .values)) (now (a .journal))) (a .n) _ (rn .runs .ensures) (not-false _ (e1 .if1 .left)) (a .k) (a .e) (e2 .if2 .left) _
-    (mw .may-write .ensures) (not-false _ (e3 .if3 .left)) _ (cr .count-running .ensures .count) (a .h .journal .used) (length-newest (a .h .journal .used) (now (a .journal)))
+    (mw .may-write .ensures) (not-false _ (e3 .if3 .left)) _ (cr .count-running .ensures .count) (a .h .journal .used) (length-records (a .h .journal .used) (now (a .journal)))
     (rw (rm .room .ensures) at (c .if4 .left))
 
 pub decide-spec : {M : Type 1} → statement M

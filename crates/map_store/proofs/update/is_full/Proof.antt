@@ -10,7 +10,7 @@ use Rattle.column.specs.declared.Found.{Found}
 use Rattle.column.specs.declared.Found.the-variants.{At, Nothing}
 use Rattle.rules.specs.Bools.{split}
 use Rattle.slot.specs.declared.Slot.{Slot}
-use Rattle.slot.specs.Slot.{rowOf}
+use Rattle.slot.specs.Slot.{keyRow}
 use Rattle.slot.specs.Slots.{met}
 use Rattle.slot.specs.Formed.{Rowed}
 use Rattle.slot.specs.Places.{hasKey, slotRows}
@@ -18,7 +18,7 @@ use Rattle.slot.specs.RowLaws.{has-row, length-rows}
 use Rattle.map_store.proofs.update.is_full.Statement.{statement}
 use Rattle.map_store.proofs.update.is_full.Tie as tie
 
-module _ (s : Slot) (w : Rowed s) (k : ℕ) (f : Found) (e : f ≡ rowOf s k) where
+module _ (s : Slot) (w : Rowed s) (k : ℕ) (f : Found) (e : f ≡ keyRow s k) where
   there : {i : ℕ} → f ≡ At i → false ≡ not (hasKey k (slotRows s) || ltb (length (slotRows s)) 32)
   there g = rw (has-row s w k ∙ ap met (sym e ∙ g))
 

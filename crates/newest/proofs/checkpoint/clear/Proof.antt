@@ -8,7 +8,7 @@ use denote.Ref.{now}
 use lib.ListN.{set, take-append-drop}
 use native.Mathlib.Nat.{sub-self}
 use Rattle.versions.specs.Versions.{Columns, columns}
-use Rattle.versions.specs.Columns.{Lent, Long, each, zeroed, cleared}
+use Rattle.versions.specs.Columns.{Spans, Long, each, zeroed, cleared}
 use Rattle.versions.specs.Laws.{long-self, lent-fewer, each-same}
 use Rattle.newest.proofs.Cells.{long-set, clear-more}
 use Rattle.newest.proofs.checkpoint.clear.Statement.{statement}
@@ -19,7 +19,7 @@ none : (m : ℕ) (cells : List ℕ) → cells ≡ zeroed m m cells
 none m cells = rw (sub-self, take-append-drop)
 
 -- one row more is zero
-more : (cs : Columns) {cs' : Columns} (m i : ℕ) → m ≤ i → Lent (i + 1) cs → cs' ≡ cleared m i cs → each (λ field cells. set cells i 0) cs' ≡ cleared m (i + 1) cs
+more : (cs : Columns) {cs' : Columns} (m i : ℕ) → m ≤ i → Spans (i + 1) cs → cs' ≡ cleared m i cs → each (λ field cells. set cells i 0) cs' ≡ cleared m (i + 1) cs
 more cs m i l h w =
     rw w (each-same h (λ field cells. set (zeroed m i cells) i 0) (λ field. zeroed m (i + 1)) (λ field cells k. clear-more m i cells l (omega arith)))
 

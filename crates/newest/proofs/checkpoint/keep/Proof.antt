@@ -8,8 +8,8 @@ use borrow.Author.Needs.{needs}
 use denote.Ref.{now}
 use lib.ListN.{length, getD}
 use Rattle.versions.specs.declared.Version.{Version}
-use Rattle.versions.specs.Versions.{Columns, columns, versionAt, versionsOf, stays, thin, keptFrom}
-use Rattle.versions.specs.Columns.{Lent, marked, over, Moved, zeroed, cleared, settled, Kept}
+use Rattle.versions.specs.Versions.{Columns, columns, versionAt, versionsOf, isKept, thin, keptFrom}
+use Rattle.versions.specs.Columns.{Spans, marked, over, Moved, zeroed, cleared, settled, Kept}
 use Rattle.versions.specs.Laws.{length-versions, lent-long, each-same, length-kept}
 use Rattle.newest.proofs.Cells.{over-cleared}
 use Rattle.newest.proofs.checkpoint.keep.Statement.{statement}
@@ -17,12 +17,12 @@ use Rattle.newest.proofs.checkpoint.keep.Tie as tie
 
 -- where each mark says whether its row stays, the marked versions are those that are kept
 marked-thin : (marks : List Bool) (cs : Columns) (T : ℕ) (whole : List Version) (n : ℕ)
-    → ((i : ℕ) → i < n → getD marks i false ≡ stays T whole i (versionAt i cs)) → marked marks (versionsOf n cs) ≡ thin T whole (versionsOf n cs)
+    → ((i : ℕ) → i < n → getD marks i false ≡ isKept T whole i (versionAt i cs)) → marked marks (versionsOf n cs) ≡ thin T whole (versionsOf n cs)
 marked-thin marks cs T whole zero h = refl
 marked-thin marks cs T whole (suc n) h =
     rw (length-versions n cs, h n (omega arith), marked-thin marks cs T whole n (λ i l. h i (omega arith)))
 
-module _ (marks : List Bool) (cs : Columns) (T n : ℕ) (h : (i : ℕ) → i < n → getD marks i false ≡ stays T (versionsOf n cs) i (versionAt i cs))
+module _ (marks : List Bool) (cs : Columns) (T n : ℕ) (h : (i : ℕ) → i < n → getD marks i false ≡ isKept T (versionsOf n cs) i (versionAt i cs))
     {cs₁ : Columns} {r : ℕ} (moved : Moved (marked marks (versionsOf n cs)) cs cs₁ r) where
   up : Moved (keptFrom T (versionsOf n cs)) cs cs₁ r
   up = rw (marked-thin marks cs T (versionsOf n cs) n h) at moved
@@ -30,7 +30,7 @@ module _ (marks : List Bool) (cs : Columns) (T n : ℕ) (h : (i : ℕ) → i < n
   few : r ≤ n
   few = rw (up .count) (length-kept T n cs)
 
-  settles : Lent n cs → {cs₂ : Columns} → cs₂ ≡ cleared r n cs₁ → Kept T n cs cs₂ r
+  settles : Spans n cs → {cs₂ : Columns} → cs₂ ≡ cleared r n cs₁ → Kept T n cs cs₂ r
   settles l w =
       let kept = keptFrom T (versionsOf n cs) in
       record {

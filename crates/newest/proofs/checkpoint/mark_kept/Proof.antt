@@ -9,7 +9,7 @@ use denote.Ref.{now}
 use lib.Dec.{ltb}
 use lib.ListN.{length, getD, take}
 use Rattle.rules.specs.Lists.{among}
-use Rattle.versions.specs.Versions.{Columns, keyed, versionAt, versionsOf, newest, isRow, stays}
+use Rattle.versions.specs.Versions.{Columns, keyed, versionAt, versionsOf, newest, isRow, isKept}
 use Rattle.table.specs.Table.{Next}
 use Rattle.table.specs.Laws.{next-within}
 use Rattle.newest.specs.Newest.{newestRows}
@@ -27,7 +27,7 @@ last-first false false false = refl
 
 marked : (ks ts : List ℕ) (others : Columns) (t n : ℕ) {a b a' b' : List ℕ} {m : ℕ} → Next (newestRows ks ts t n) a b a' b' m → (i : ℕ) (late also all : Bool)
     → late ≡ ltb t (getD ts i 0) → also ≡ (among i (take m b') || late) → all ≡ (isRow i (newest 0 t (versionsOf n (keyed ks ts others))) || also)
-    → all ≡ stays t (versionsOf n (keyed ks ts others)) i (versionAt i (keyed ks ts others))
+    → all ≡ isKept t (versionsOf n (keyed ks ts others)) i (versionAt i (keyed ks ts others))
 marked ks ts others t n {b' = b'} {m = m} w i late also all p q r =
     rw (r, q, p)
     (last-first (isRow i (newest 0 t (versionsOf n (keyed ks ts others)))) (among i (take m b')) (ltb t (getD ts i 0)) ∙ rw (kept-row ks ts t n w others i))

@@ -12,7 +12,7 @@ use denote.Ref.{now}
 use lib.ListN.{length, getD, set}
 use Rattle.versions.specs.declared.Version.{Version}
 use Rattle.versions.specs.Versions.{Columns, columns, versionAt, versionsOf}
-use Rattle.versions.specs.Columns.{Lent, Long, each, marked, over, Moved}
+use Rattle.versions.specs.Columns.{Spans, Long, each, marked, over, Moved}
 use Rattle.versions.specs.Laws.{length-versions, columns-same, long-self, lent-fewer}
 use Rattle.newest.proofs.Cells.{long-set, over-behind, over-more}
 use Rattle.newest.proofs.checkpoint.move_up.Statement.{statement}
@@ -26,7 +26,7 @@ write field rows cells m i v c l h f =
     rw (r, c) (over-more field rows cells v (omega arith))
 
 module _ (marks : List Bool) (cs : Columns) {cs₁ cs₂ : Columns} {m n : ℕ} (i : ℕ) (w : Moved (marked marks (versionsOf i cs)) cs cs₁ m) where
-  moves : getD marks i false ≡ true → m ≤ i → Lent (i + 1) cs → cs₂ ≡ each (λ field cells. set cells m (getD cells i 0)) cs₁ → n ≡ m + 1
+  moves : getD marks i false ≡ true → m ≤ i → Spans (i + 1) cs → cs₂ ≡ each (λ field cells. set cells m (getD cells i 0)) cs₁ → n ≡ m + 1
       → Moved (marked marks (versionsOf (i + 1) cs)) cs cs₂ n
   moves e l h a f =
       let old = marked marks (versionsOf i cs) in

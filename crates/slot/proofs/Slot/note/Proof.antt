@@ -6,12 +6,12 @@ use borrow.Author.Tests.{lt-ltb, le-ltb}
 use Rattle.column.specs.declared.Found.{Found}
 use Rattle.column.specs.declared.Found.the-variants.{Nothing}
 use Rattle.slot.specs.declared.Slot.{Slot}
-use Rattle.slot.specs.Slot.{rowOf, extended, notedAt, noted}
+use Rattle.slot.specs.Slot.{keyRow, extended, notedAt, noted}
 use borrow.Author.Needs.{needs}
 use Rattle.slot.proofs.Slot.note.Statement.{statement}
 use Rattle.slot.proofs.Slot.note.Tie as tie
 
-module _ (s : Slot) (k v : ℕ) (absent : rowOf s k ≡ Nothing) where
+module _ (s : Slot) (k v : ℕ) (absent : keyRow s k ≡ Nothing) where
   full : 32 ≤ s .count → s ≡ noted s k v
   full l = rw (absent, le-ltb (s .count) 32 l)
 

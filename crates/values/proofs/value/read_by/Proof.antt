@@ -4,7 +4,7 @@ use borrow.Author.Needs.{needs}
 use denote.Ref.{now}
 use Rattle.rules.specs.Effects.{effects}
 use Rattle.rules.specs.Transactions.{of}
-use Rattle.record.specs.Bytes.{newest}
+use Rattle.record.specs.Bytes.{recordsIn}
 use Rattle.values.proofs.value.read_by.Statement.{statement}
 use Rattle.values.proofs.value.read_by.Tie as tie
 
@@ -13,7 +13,7 @@ returns c =
     let p = c .before .before .before .before .before .before .before .before .before .before in
     let a = p .before .before .before .before .before .before .before .before .args in
     let s = p .settle .ensures in
-    c .kept-effects .ensures ∙ s .does (a .n) _ ∙ ap (effects (a .k) (of (a .n) (newest (a .used) (now (a .journal))))) (s .is)
+    c .kept-effects .ensures ∙ s .does (a .n) _ ∙ ap (effects (a .k) (of (a .n) (recordsIn (a .used) (now (a .journal))))) (s .is)
 
 pub read-by-spec : {M : Type 1} → statement M
 read-by-spec = tie.close (tie.spec (λ c κs. search needs) (λ c κs. search needs) (λ c. search needs) (λ c. search needs) (λ c. search needs) returns)

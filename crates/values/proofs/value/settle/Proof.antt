@@ -17,7 +17,7 @@ use Rattle.rules.specs.Kinds.{recordBytes, isCommit}
 use Rattle.rules.specs.Effects.{effects, writes}
 use Rattle.rules.specs.Transactions.{of}
 use Rattle.rules.specs.Values.{settle, value}
-use Rattle.record.specs.Bytes.{newest, recordAt}
+use Rattle.record.specs.Bytes.{recordsIn, recordAt}
 use Rattle.record.specs.Walks.{finish, arrived}
 use Rattle.values.specs.Pass.{keptStep, keptEffects, Does}
 use Rattle.values.specs.PassLaws.{kept-more, effects-more, effects-none, effects-unwritten, value-unwritten}
@@ -30,36 +30,36 @@ record Pass (j : List ℕ) (start : Value) (k t i : ℕ) (transactions₀ kinds�
   transactions-room : length transactions ≡ length transactions₀
   kinds-room : length kinds ≡ length kinds₀
   amounts-room : length amounts ≡ length amounts₀
-  does : Does k (newest i j) transactions kinds amounts n
-  is : v ≡ value start k t (newest i j)
+  does : Does k (recordsIn i j) transactions kinds amounts n
+  is : v ≡ value start k t (recordsIn i j)
 
 module _ (j : List ℕ) (start : Value) (k t i : ℕ) (r : Record) (e : r ≡ recordAt j (i * recordBytes)) where
-  module _ (v new : Value) (h : v ≡ value start k t (newest i j)) where
-    settled : new ≡ settle k t r (newest i j) v → new ≡ value start k t (newest (i + 1) j)
+  module _ (v new : Value) (h : v ≡ value start k t (recordsIn i j)) where
+    settled : new ≡ settle k t r (recordsIn i j) v → new ≡ value start k t (recordsIn (i + 1) j)
     settled s = rw add-one (s ∙ rw (e, h))
 
-    stands : (isCommit r && leb (r .time) t) ≡ true → new ≡ effects k (of (r .transaction) (newest i j)) v → new ≡ value start k t (newest (i + 1) j)
+    stands : (isCommit r && leb (r .time) t) ≡ true → new ≡ effects k (of (r .transaction) (recordsIn i j)) v → new ≡ value start k t (recordsIn (i + 1) j)
     stands q f = settled (rw q f)
 
-    waits : (isCommit r && leb (r .time) t) ≡ false → new ≡ v → new ≡ value start k t (newest (i + 1) j)
+    waits : (isCommit r && leb (r .time) t) ≡ false → new ≡ v → new ≡ value start k t (recordsIn (i + 1) j)
     waits q f = settled (rw q f)
 
-  module _ (transactions kinds amounts : List ℕ) (n : ℕ) (does : Does k (newest i j) transactions kinds amounts n) where
+  module _ (transactions kinds amounts : List ℕ) (n : ℕ) (does : Does k (recordsIn i j) transactions kinds amounts n) where
     kept : (transactions' kinds' amounts' : List ℕ) (n' : ℕ) → transactions' ≡ set transactions n (r .transaction)
         → kinds' ≡ set kinds n (r .kind) → amounts' ≡ set amounts n (r .value) → n' ≡ n + 1
         → n < length transactions → n < length kinds → n < length amounts → writes k r ≡ true
-        → Does k (newest (i + 1) j) transactions' kinds' amounts' n'
+        → Does k (recordsIn (i + 1) j) transactions' kinds' amounts' n'
     kept transactions' kinds' amounts' n' a b d q h1 h2 h3 w m x =
         let s : keptEffects transactions' kinds' amounts' m n' x
-        ≡ keptStep (r .transaction) (r .kind) (r .value) m (effects k (of m (newest i j)) x) =
+        ≡ keptStep (r .transaction) (r .kind) (r .value) m (effects k (of m (recordsIn i j)) x) =
         rw (a, b, d, q, kept-more transactions kinds amounts n (r .transaction) (r .kind) (r .value) m x h1 h2 h3, does m x)
         in
-        rw add-one (s ∙ sym (effects-more k m r (newest i j) x w) ∙ rw e)
+        rw add-one (s ∙ sym (effects-more k m r (recordsIn i j) x w) ∙ rw e)
 
     passed : (transactions' kinds' amounts' : List ℕ) (n' : ℕ) → transactions' ≡ transactions → kinds' ≡ kinds → amounts' ≡ amounts → n' ≡ n
-        → writes k r ≡ false → Does k (newest (i + 1) j) transactions' kinds' amounts' n'
+        → writes k r ≡ false → Does k (recordsIn (i + 1) j) transactions' kinds' amounts' n'
     passed transactions' kinds' amounts' n' a b d q w m x =
-        rw (a, b, d, q, add-one) (does m x ∙ sym (effects-none k m r (newest i j) x w) ∙ rw e)
+        rw (a, b, d, q, add-one) (does m x ∙ sym (effects-none k m r (recordsIn i j) x w) ∙ rw e)
 
 abbrev Inv-loop : tie.InvT-loop
 Inv-loop journal used k t transactions₀ kinds₀ amounts₀ n₀ v₀ i₀ transactions kinds amounts n v i =
@@ -72,7 +72,7 @@ loop-holds : tie.Need-loop-holds Inv-loop μ-loop
 loop-holds c =
     let a = c .before .before .before .before .before .args in
     let none = c .first-update .ensures .before in
-    let front = newest (c .first-update .result) (now (a .journal)) in (
+    let front = recordsIn (c .first-update .result) (now (a .journal)) in (
       c .first-update .ensures .within,
       record {
         few = omega arith;
