@@ -7,7 +7,7 @@ use Rattle.column.specs.declared.Found.{Found}
 use Rattle.slot.specs.declared.Slot.{Slot}
 use Rattle.slot.specs.declared.Slots.{Slots}
 use Rattle.slot.specs.Slot.{emptySlot, openedSlot, keyRow, noted}
-use Rattle.slot.specs.Slots.{emptySlots, slotAt, isOccupied, lowestFree, slotOf, slotsShaped, slotsHold, openedIn, notedIn, closedIn}
+use Rattle.slot.specs.Slots.{emptySlots, slotAt, isOccupied, lowestFree, slotOf, slotsShaped, slotsHold, openedIn, closedIn}
 
 -- the slot that `Slot::free` and `Slot::close` answer
 pub free-unique : {r s : Slot} → r ≡ emptySlot → s ≡ emptySlot → r ≡ s
@@ -43,9 +43,6 @@ module _ (slots : Slots) where
 
   pub opened-unique : (number snapshot : ℕ) {r s : Slots} → r ≡ openedIn slots number snapshot → s ≡ openedIn slots number snapshot → r ≡ s
   opened-unique number snapshot p q = p ∙ sym q
-
-  pub noted-unique : (i key value : ℕ) {r s : Slots} → r ≡ notedIn slots i key value → s ≡ notedIn slots i key value → r ≡ s
-  noted-unique i key value p q = p ∙ sym q
 
   pub closed-unique : (i : ℕ) {r s : Slots} → r ≡ closedIn slots i → s ≡ closedIn slots i → r ≡ s
   closed-unique i p q = p ∙ sym q

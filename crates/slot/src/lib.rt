@@ -6,7 +6,7 @@ ghost use lib.Count.{ones};
 ghost use Rattle.rules.specs.Limits.{mostRunning, mostKeys};
 ghost use Rattle.slot.specs.Slot.{emptySlot, openedSlot, keyRow};
 ghost use Rattle.slot.specs.Slot.{noted as notedSlot};
-ghost use Rattle.slot.specs.Slots.{emptySlots, slotAt, isOccupied, lowestFree, slotOf, slotsShaped, slotsHold, openedIn, notedIn, closedIn};
+ghost use Rattle.slot.specs.Slots.{emptySlots, slotAt, isOccupied, lowestFree, slotOf, slotsShaped, slotsHold, openedIn, closedIn};
 ghost use Rattle.slot.specs.Formed.{Formed};
 use column::Found;
 
@@ -174,16 +174,6 @@ impl Slots {
         let s = self.slots[i];
         self.slots[i] = s.open(number, snapshot);
         self.occupied = self.occupied | 1u8 << i;
-        self
-    }
-
-    // A write noted in slot i.
-    pub fn noted(mut self, i: usize, key: u32, value: u32) -> Self
-        requires { ⌜ i < mostRunning ⌝ }
-        ensures { λ r. ⌜ r ≡ notedIn self i key value ⌝ }
-    {
-        let s = self.slots[i];
-        self.slots[i] = s.note(key, value);
         self
     }
 
