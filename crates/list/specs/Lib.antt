@@ -1,5 +1,4 @@
--- What a reader must believe.
-pub mod Moves
+-- What a reader must believe, with its laws.
 pub mod Outcome
--- Laws of it, and that no second answer satisfies a contract.
+-- That no second answer satisfies a contract.
 pub mod Unique

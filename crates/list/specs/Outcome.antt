@@ -1,57 +1,43 @@
 -- What the program says beside the listing. Assumes nothing.
-use mathlib.Core.Path.{_≡_, refl, sym, _∙_}
-use mathlib.Core.Bool.{Bool, true, false, cond}
-use mathlib.Core.List.{List, _++_}
+use mathlib.Core.Path.{_≡_, sym, _∙_}
+use mathlib.Core.Bool.{true, false, cond}
+use mathlib.Core.List.{List, [], _∷_}
 use Prim.Native.Nat.{ℕ, _≤_, _<_}
-use lib.Dec.{eqb, ltb}
-use lib.ListN.{length, drop, getD}
+use lib.Dec.{ltb}
+use lib.ListN.{getD}
 use borrow.Author.Tests.{eq-eqb, ne-eqb, lt-ltb, le-ltb}
-use Rattle.rules.specs.declared.Record.{Record}
-use Rattle.rules.specs.declared.Walked.{Walked}
-use Rattle.rules.specs.declared.Walked.the-variants.{Whole, BadAt}
-use Rattle.rules.specs.Bools.{split}
 use Rattle.rules.specs.Kinds.{recordBytes}
-use Rattle.rules.specs.Recovery.{walk}
-use Rattle.journal_store.specs.Contracts.{surviving}
-use Rattle.report.specs.Text.{isLent, reportText, walkedText}
+use Rattle.journal_store.specs.declared.Head.{Head}
+use Rattle.journal_store.specs.Shape.{emptyHead}
 use Rattle.report.specs.Written.{Reported}
+use Rattle.report.specs.Refused.{isRefused, letter-tells}
 use Rattle.list.specs.declared.Outcome.{Outcome}
 use Rattle.list.specs.declared.Outcome.the-variants.{Listed, Empty, Refused}
 
--- recovery refuses the record at some place
-abbrev pub isBad : Walked → Bool
-isBad Whole = false
-isBad (BadAt place) = true
+-- a column of the base, of which no row is used
+abbrev pub none : List ℕ
+none = 0 ∷ []
 
--- the store refuses the bytes: they are too many, or one of their records is bad
-abbrev pub isRefused : List ℕ → ℕ → Bool
-isRefused j survived = cond (isLent (length j) survived) (isBad (walk 0 (surviving survived j))) true
+-- the report of a journal alone: that of the empty head, without a base
+abbrev pub Output : List ℕ → ℕ → List ℕ → ℕ → List ℕ → List ℕ → Type 0
+Output j survived out r j' out' = Reported emptyHead none none j survived out r j' out'
 
 -- a refusal, or a listing, of no record where fewer bytes survived than a record has
 abbrev pub outcomeOf : List ℕ → ℕ → Outcome
-outcomeOf j survived = cond (isRefused j survived) Refused (cond (ltb survived recordBytes) Empty Listed)
+outcomeOf j survived = cond (isRefused emptyHead none none j survived) Refused (cond (ltb survived recordBytes) Empty Listed)
 
-walked-letter : (w : Walked) (rs : List Record) (rest : List ℕ) → eqb (getD (walkedText w rs ++ rest) 0 0) 114 ≡ isBad w
-walked-letter Whole rs rest = refl
-walked-letter (BadAt place) rs rest = refl
+-- the head of an empty store by another name
+pub printed : {h : Head} {j out j' out' : List ℕ} {survived r : ℕ} → h ≡ emptyHead → Reported h none none j survived out r j' out'
+    → Output j survived out r j' out'
+printed e p = rw e at p
 
-first-letter : (j : List ℕ) (survived : ℕ) (rest : List ℕ) → eqb (getD (reportText j survived ++ rest) 0 0) 114 ≡ isRefused j survived
-first-letter j survived rest =
-    split (isLent (length j) survived) (λ e. rw e (walked-letter (walk 0 (surviving survived j)) (surviving survived j) rest)) (λ e. rw e)
-
-module _ {j out j' out' : List ℕ} {survived r : ℕ} (p : Reported j survived out r j' out') where
-  -- the first byte of the text tells: "refused" has an r there, "time" a t
-  letter-tells : eqb (getD out' 0 0) 114 ≡ isRefused j survived
-  letter-tells = rw (p .text) (first-letter j survived (drop (length (reportText j survived)) out))
-
+module _ {j out j' out' : List ℕ} {survived r : ℕ} (p : Output j survived out r j' out') where
   pub told-refused : getD out' 0 0 ≡ 114 → Refused ≡ outcomeOf j survived
-  told-refused e =
-      let t : isRefused j survived ≡ true = sym letter-tells ∙ eq-eqb (getD out' 0 0) 114 e in
-      rw t
+  told-refused e = rw (sym (letter-tells emptyHead none none j survived p) ∙ eq-eqb (getD out' 0 0) 114 e)
 
   module _ (n : getD out' 0 0 ≡ 114 → ⊥) where
-    accepted : isRefused j survived ≡ false
-    accepted = sym letter-tells ∙ ne-eqb (getD out' 0 0) 114 n
+    accepted : isRefused emptyHead none none j survived ≡ false
+    accepted = sym (letter-tells emptyHead none none j survived p) ∙ ne-eqb (getD out' 0 0) 114 n
 
     pub told-empty : survived < recordBytes → Empty ≡ outcomeOf j survived
     told-empty h = rw (accepted, lt-ltb survived recordBytes h)

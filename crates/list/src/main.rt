@@ -1,21 +1,17 @@
 // The listing program of section 7: a journal from standard input, its listing to standard output. A Rattle program has no status of its own: one line
 // on standard error says how it ended, and `listing` takes its status from that. A run that says nothing has not come to its end.
-mod input;
-mod moves;
-mod output;
-
 ghost use mathlib.Core.Path.{_≡_};
 ghost use Prim.Native.Nat.{_≤_};
 ghost use lib.ListN.{length};
 ghost use Rattle.report.specs.Text.{textBytes};
-ghost use Rattle.report.specs.Written.{Reported};
-ghost use Rattle.list.specs.Outcome.{outcomeOf};
-use input::Input;
+ghost use Rattle.list.specs.Outcome.{Output, outcomeOf};
 use journal::Journal;
-use libc::STDERR_FILENO;
+use journal_store::Head;
 use libc::STDIN_FILENO;
-use libc::STDOUT_FILENO;
 use rules::Record;
+use streams::input;
+use streams::input::Input;
+use streams::output;
 
 // What the journal gave: a listing of its records, one of no record at all, or a refusal.
 enum Outcome {
@@ -33,10 +29,11 @@ struct Told {
 // The text for the bytes that survived. That of a refusal alone starts with an r.
 fn report_on(journal: &mut [u8], survived: usize, text: &mut [u8]) -> Told
     requires { ⌜ textBytes ≤ length (now text) ⌝ }
-    ensures { λ r. ⌜ Reported (now (journal .entry)) survived (now (text .entry)) (r .count) (now (journal .exit)) (now (text .exit)) ⌝ }
+    ensures { λ r. ⌜ Output (now (journal .entry)) survived (now (text .entry)) (r .count) (now (journal .exit)) (now (text .exit)) ⌝ }
     ensures { λ r. ⌜ r .outcome ≡ outcomeOf (now (journal .entry)) survived ⌝ }
 {
-    let count = report::report(journal, survived, text);
+    let none = [0u32; 1];
+    let count = report::report(Head::empty(), &none, &none, journal, survived, text);
     if text[0] == b'r' {
         return Told {
             count,
@@ -55,23 +52,15 @@ fn report_on(journal: &mut [u8], survived: usize, text: &mut [u8]) -> Told
     }
 }
 
-// One line on standard error. Where that fails too, there is nobody to tell.
-fn say(line: &[u8]) {
-    output::write_all(STDERR_FILENO, line);
-}
-
 // The text to standard output, and the line that belongs to it.
 fn print(text: &[u8], outcome: Outcome) {
-    if output::write_all(STDOUT_FILENO, text) < text.len() {
-        say(b"listing: the listing could not be written\n");
-        return;
-    }
     match outcome {
-        Outcome::Listed => say(b"listing: listed\n"),
-        Outcome::Empty => say(
+        Outcome::Listed => output::print(text, b"listing: listed\n"),
+        Outcome::Empty => output::print(
+            text,
             b"listing: this journal has no record; a store that has taken a checkpoint has its registers in its base\n",
         ),
-        Outcome::Refused => say(b"listing: the store refuses this journal\n"),
+        Outcome::Refused => output::print(text, b"listing: the store refuses this journal\n"),
     }
 }
 
@@ -80,7 +69,7 @@ fn main() {
     let mut journal = [0u8; Journal::RECORDS * Record::BYTES + 1];
     let input = input::read_all(STDIN_FILENO, &mut journal);
     match input {
-        Input::Failed => say(b"listing: the journal could not be read\n"),
+        Input::Failed => output::say(b"listing: the journal could not be read\n"),
         Input::Ended(survived) => {
             let mut text = [0u8; report::TEXT];
             let told = report_on(&mut journal, survived, &mut text);

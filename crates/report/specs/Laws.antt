@@ -1,12 +1,12 @@
--- The laws of texts: two texts written one behind the other are one, how long the lines are at most, and a journal alone lists no more rows than
--- it has records. Assumes nothing.
+-- The laws of texts: two texts written one behind the other are one, how long the lines are at most, and a list has no more rows than its base has
+-- rows and its journal records. Assumes nothing.
 use mathlib.Core.Path.{_≡_, sym, ap, _∙_}
 use mathlib.Core.List.{List, [], _∷_, _++_, append-assoc}
 use native.Mathlib.Nat.{le-max-left}
 use Prim.Native.Nat.{ℕ, suc, _+_, _^_, _≤_, _<_}
 use native.Mathlib.Omega.{arith}
 use lib.Dec.{eqb, ltb}
-use lib.ListN.{length, take, drop, length-append, length-drop}
+use lib.ListN.{length, take, drop, length-append, length-drop, length-take}
 use lib.Seq.{drop-drop, drop-at, take-at, length-take-le}
 use Rattle.rules.specs.declared.Record.{Record}
 use Rattle.rules.specs.declared.Value.{Value}
@@ -16,6 +16,7 @@ use Rattle.rules.specs.Kinds.{isUpdate, isBegin}
 use Rattle.rules.specs.Times.{above}
 use Rattle.rules.specs.Values.{Row, valueAt}
 use Rattle.rules.specs.Lists.{put, enter, listed, knownKeys, listAt}
+use Rattle.rules.specs.Columns.{rowsOf, firstRows, length-keys}
 use Rattle.decimal.specs.Digits.{digits}
 use Rattle.decimal.specs.Printed.{Printed}
 use Rattle.decimal.specs.Laws.{digits-32}
@@ -117,10 +118,20 @@ listed-length : (f : ℕ → Value) (ks : List ℕ) → length (listed f ks) ≤
 listed-length f [] = omega arith
 listed-length f (k ∷ ks) = omega (arith, enter-length k (f k) (listed f ks), listed-length f ks)
 
-known-length : (rs : List Record) → length (knownKeys [] rs) ≤ length rs
-known-length [] = omega arith
-known-length (r ∷ rs) = split (isUpdate r) (λ e. rw e (omega (arith, known-length rs))) (λ e. rw e (omega (arith, known-length rs)))
+known-length : (base : List Row) (rs : List Record) → length (knownKeys base rs) ≤ length base + length rs
+known-length base [] = omega (arith, length-keys base)
+known-length base (r ∷ rs) =
+    split (isUpdate r) (λ e. rw e (omega (arith, known-length base rs))) (λ e. rw e (omega (arith, known-length base rs)))
 
--- a journal alone lists at most one row a record
-pub list-length : (rs : List Record) (t : ℕ) → length (listAt [] rs t) ≤ length rs
-list-length rs t = omega (arith, listed-length (valueAt [] rs t) (knownKeys [] rs), known-length rs)
+-- a list has at most one row for each row of the base and for each record
+pub list-length : (base : List Row) (rs : List Record) (t : ℕ) → length (listAt base rs t) ≤ length base + length rs
+list-length base rs t = omega (arith, listed-length (valueAt base rs t) (knownKeys base rs), known-length base rs)
+
+rows-length : (keys values : List ℕ) → length (rowsOf keys values) ≤ length keys
+rows-length [] values = omega arith
+rows-length (k ∷ keys) [] = omega arith
+rows-length (k ∷ keys) (v ∷ values) = omega (arith, rows-length keys values)
+
+-- the first n rows are at most n
+pub front-length : (n : ℕ) (keys values : List ℕ) → length (firstRows n keys values) ≤ n
+front-length n keys values = omega (arith, rows-length (take n keys) (take n values), length-take n keys)

@@ -1,19 +1,21 @@
--- Section 7: the text of the listing program, line by line, and what it makes of the bytes of a journal. Assumes nothing.
-use mathlib.Core.Bool.{Bool, cond, _&&_}
+-- Section 7: the text of the listing program, line by line, and what it makes of a head, a base and the bytes of a journal. Assumes nothing.
+use mathlib.Core.Bool.{cond}
 use mathlib.Core.List.{List, [], _∷_, _++_}
 use Prim.Native.Nat.{ℕ, _+_, _*_}
-use lib.Dec.{leb}
 use lib.ListN.{length}
 use Rattle.rules.specs.declared.Record.{Record}
 use Rattle.rules.specs.declared.Walked.{Walked}
 use Rattle.rules.specs.declared.Walked.the-variants.{Whole, BadAt}
+use Rattle.rules.specs.Limits.{mostRecords, mostRows}
 use Rattle.rules.specs.Times.{last}
 use Rattle.rules.specs.Values.{Row}
 use Rattle.rules.specs.Lists.{listAt}
+use Rattle.rules.specs.Columns.{firstRows}
 use Rattle.rules.specs.Recovery.{walk, survivors}
 use Rattle.decimal.specs.Digits.{digits}
 use Rattle.compact.specs.Compact.{compacted}
-use Rattle.journal_store.specs.Contracts.{journalBytes, surviving}
+use Rattle.journal_store.specs.declared.Head.{Head}
+use Rattle.journal_store.specs.Contracts.{isRecoverable, surviving}
 
 -- the one byte that ends a line
 abbrev pub newline : List ℕ
@@ -63,40 +65,47 @@ rowLines (row ∷ rows) = pairLine keyIs (row .key) valueIs (row .value) ++ rowL
 abbrev pub listing : ℕ → List Row → List ℕ
 listing time rows = line timeIs time ++ (line keysIs (length rows) ++ rowLines rows)
 
--- the list at last of the records of a journal without a base, from low 0 on
-abbrev pub listText : List Record → List ℕ
-listText rs = listing (last 0 rs) (listAt [] rs (last 0 rs))
+-- the list at last of some records above a base, from low on
+abbrev pub listText : ℕ → List Row → List Record → List ℕ
+listText low base rs = listing (last low rs) (listAt base rs (last low rs))
 
 -- refused=N record=P
 abbrev pub refusedText : ℕ → ℕ → List ℕ
 refusedText n place = pairLine refusedIs n recordIs place
 
--- what survived is within the journal's limit and within the buffer
-abbrev pub isLent : ℕ → ℕ → Bool
-isLent bytes survived = leb survived journalBytes && leb survived bytes
+-- the base of a head and two columns: the rows that the head counts
+abbrev pub baseOf : Head → List ℕ → List ℕ → List Row
+baseOf h keys values = firstRows (h .base .rows) keys values
 
 -- after the walk: the list of what recovery keeps, or refusal 13 with its place
-abbrev pub walkedText : Walked → List Record → List ℕ
-walkedText Whole rs = listText (survivors rs)
-walkedText (BadAt place) rs = refusedText 13 place
+abbrev pub walkedText : Walked → ℕ → List Row → List Record → List ℕ
+walkedText Whole low base rs = listText low base (survivors rs)
+walkedText (BadAt place) low base rs = refusedText 13 place
 
--- the whole output, from the bytes of a journal of which so many survived; more than its limit is refusal 1
-abbrev pub reportText : List ℕ → ℕ → List ℕ
-reportText j survived =
-    cond (isLent (length j) survived) (walkedText (walk 0 (surviving survived j)) (surviving survived j)) (refusedText 1 0)
+-- the whole output, from a head, its base and the bytes of a journal of which so many survived; what cannot be recovered by its shape is refusal 1
+abbrev pub reportText : Head → List ℕ → List ℕ → List ℕ → ℕ → List ℕ
+reportText h keys values j survived =
+    cond (isRecoverable h keys (length values) (length j) survived)
+    (walkedText (walk (h .low) (surviving survived j)) (h .low) (baseOf h keys values) (surviving survived j))
+    (refusedText 1 0)
 
 -- the journal afterwards: as section 5 leaves it where it was accepted, and as it was where it was refused
 abbrev pub walkedCells : Walked → List ℕ → ℕ → List ℕ
 walkedCells Whole j survived = compacted (survivors (surviving survived j)) survived j
 walkedCells (BadAt place) j survived = j
 
-abbrev pub reportCells : List ℕ → ℕ → List ℕ
-reportCells j survived = cond (isLent (length j) survived) (walkedCells (walk 0 (surviving survived j)) j survived) j
+abbrev pub reportCells : Head → List ℕ → List ℕ → List ℕ → ℕ → List ℕ
+reportCells h keys values j survived =
+    cond (isRecoverable h keys (length values) (length j) survived) (walkedCells (walk (h .low) (surviving survived j)) j survived) j
 
 -- the most bytes of a row's line: its names, two numbers of 32 bits, and the newline
 abbrev pub rowBytes : ℕ
 rowBytes = 32
 
--- the most bytes of the text: the line of the time, a number of 64 bits, the line of the count, at most 2,048, and as many rows
+-- the most rows of a list: one for each row of the base and for each record
+abbrev pub mostListed : ℕ
+mostListed = mostRows + mostRecords
+
+-- the most bytes of the text: the line of the time, a number of 64 bits, the line of the count, at most 2,560, and as many rows
 abbrev pub textBytes : ℕ
-textBytes = 26 + 10 + 2048 * rowBytes
+textBytes = 26 + 10 + mostListed * rowBytes

@@ -1,10 +1,8 @@
 -- What the functions that write a text into a lent buffer promise: the place behind it, and every byte of the buffer. Assumes nothing.
 use mathlib.Core.Path.{_≡_}
 use mathlib.Core.List.{List, _++_}
-use Prim.Native.Nat.{ℕ, _+_, _*_, _≤_}
+use Prim.Native.Nat.{ℕ, _+_, _≤_}
 use lib.ListN.{length, take, drop}
-use Rattle.rules.specs.Kinds.{recordBytes}
-use Rattle.journal.specs.Kinds.{emptyBase}
 use Rattle.journal_store.specs.declared.Head.{Head}
 use Rattle.report.specs.Text.{reportText, reportCells}
 
@@ -17,18 +15,10 @@ pub record Written (entry : List ℕ) (at : ℕ) (text : List ℕ) (r : ℕ) (ex
   pub next : r ≡ at + length text
   pub bytes : exit ≡ placed entry at text
 
--- the head of a store with a journal alone: low 0, no base rows, and the used records are there
-pub record Alone (h : Head) (bytes : ℕ) : Type 0 where
-  pub low : h .low ≡ 0
-  pub base : h .base ≡ emptyBase
-  pub floor : 1 ≤ h .floor
-  pub few : h .journal .used ≤ 2048
-  pub there : h .journal .used * recordBytes ≤ bytes
-
 -- the answer is the length of the text, the buffer starts with the text and is as it was behind it, and the journal is as recovery leaves it; so
 -- the answer is a place within the buffer
-pub record Reported (j : List ℕ) (survived : ℕ) (out : List ℕ) (r : ℕ) (j' out' : List ℕ) : Type 0 where
-  pub count : r ≡ length (reportText j survived)
-  pub text : out' ≡ reportText j survived ++ drop (length (reportText j survived)) out
-  pub cells : j' ≡ reportCells j survived
+pub record Reported (h : Head) (keys values j : List ℕ) (survived : ℕ) (out : List ℕ) (r : ℕ) (j' out' : List ℕ) : Type 0 where
+  pub count : r ≡ length (reportText h keys values j survived)
+  pub text : out' ≡ reportText h keys values j survived ++ drop (length (reportText h keys values j survived)) out
+  pub cells : j' ≡ reportCells h keys values j survived
   pub within : r ≤ length out'

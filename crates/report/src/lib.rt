@@ -1,32 +1,37 @@
-// Section 7: the text of the listing program, from the bytes of a journal with an empty base, low 0 and floor 1. A text is written into a lent buffer,
-// piece by piece, each behind the one before.
+// Section 7: the text of the listing program, from a head, its base and the bytes of a journal; a journal alone has the head of an empty store. A text
+// is written into a lent buffer, piece by piece, each behind the one before.
 ghost use Prim.Native.Nat.{_+_, _*_, _≤_};
 ghost use lib.ListN.{length};
 ghost use Rattle.rules.specs.Columns.{firstRows};
 ghost use Rattle.answer.specs.Reply.{numberOf, placeNumber};
 ghost use Rattle.record.specs.Bytes.{recordsIn};
-ghost use Rattle.report.specs.Text.{field as fieldText, line as lineText, pairLine, rowLines, listText, refusedText, rowBytes, textBytes};
-ghost use Rattle.report.specs.Written.{Written, Alone, Reported};
+ghost use Rattle.journal_store.specs.Shape.{Shaped};
+ghost use Rattle.report.specs.Text.{field as fieldText, line as lineText, pairLine, rowLines, listText, refusedText, baseOf, rowBytes, textBytes};
+ghost use Rattle.report.specs.Written.{Written, Reported};
 use answer::Done;
 use answer::Listed;
 use answer::Refusal;
+use journal::Base;
 use journal::Journal;
 use journal_store::Head;
 
-// The most bytes of a text that a journal lists: the lines of time and count, and one line for each row.
-pub const TEXT: usize = TIME_LINE + COUNT_LINE + Journal::RECORDS * ROW_LINE;
+// The most bytes of a text: the lines of time and count, and one line for each row.
+pub const TEXT: usize = TIME_LINE + COUNT_LINE + ROWS * ROW_LINE;
+
+// The most rows of a list: one for each row of the base and for each record.
+const ROWS: usize = Base::ROWS + Journal::RECORDS;
 
 // The most bytes of time=LAST, a number of 64 bits, and its newline.
 const TIME_LINE: usize = 26;
 
-// The most bytes of keys=COUNT, at most 2,048, and its newline.
+// The most bytes of keys=COUNT, at most 2,560, and its newline.
 const COUNT_LINE: usize = 10;
 
 // The most bytes of key=K value=V, two numbers of 32 bits, and its newline.
 const ROW_LINE: usize = 32;
 
 // Copies a text to a place and answers the next place.
-fn put(out: &mut [u8], at: usize, text: &[u8]) -> usize
+pub fn put(out: &mut [u8], at: usize, text: &[u8]) -> usize
     requires { ⌜ at + length (now text) ≤ length (now out) ⌝ }
     ensures { λ r. ⌜ Written (now (out .entry)) at (now (text .entry)) r (now (out .exit)) ⌝ }
 {
@@ -96,37 +101,42 @@ fn refused(out: &mut [u8], refusal: Refusal) -> usize
     pair(out, 0, b"refused=", number, b" record=", place)
 }
 
-// The list at last of a journal alone: 2,048 rows are enough for it.
-fn listing(out: &mut [u8], h: Head, journal: &[u8]) -> usize
-    requires { ⌜ Alone h (length (now journal)) × (textBytes ≤ length (now out)) ⌝ }
-    ensures { λ r. ⌜ Written (now (out .entry)) 0 (listText (recordsIn (h .journal .used) (now (journal .entry)))) r (now (out .exit)) ⌝ }
+// The list at last: there are as many rows as it can need, so that it is never refused.
+fn listing(out: &mut [u8], h: Head, keys: &[u32], values: &[u32], journal: &[u8]) -> usize
+    requires { ⌜ Shaped h (length (now keys)) (length (now values)) (length (now journal)) × (textBytes ≤ length (now out)) ⌝ }
+    ensures { λ r. ⌜ Written (now (out .entry)) 0 (listText (h .low) (baseOf h (now (keys .entry)) (now (values .entry))) (recordsIn (h .journal .used) (now (journal .entry)))) r (now (out .exit)) ⌝ }
 {
-    let none = [0u32; 1];
-    let mut keys = [0u32; Journal::RECORDS];
-    let mut values = [0u32; Journal::RECORDS];
+    let mut listed = [0u32; ROWS];
+    let mut contents = [0u32; ROWS];
     let used = h.journal.used;
     let last = journal::times::last(journal, used, h.low);
-    let listed = journal_list::list(h, &none, &none, journal, last, &mut keys, &mut values);
-    match listed {
+    let answer = journal_list::list(h, keys, values, journal, last, &mut listed, &mut contents);
+    match answer {
         Listed::Refused(refusal) => refused(out, refusal),
         Listed::Rows(count) => {
             let time = line(out, 0, b"time=", last);
             let head = line(out, time, b"keys=", count as u64);
-            rows(out, head, &keys, &values, count)
+            rows(out, head, &listed, &contents, count)
         }
     }
 }
 
-// The whole text for the bytes that survived, and its length.
-pub fn report(journal: &mut [u8], survived: usize, out: &mut [u8]) -> usize
+// The whole text for a head, its base and the bytes that survived, and its length.
+pub fn report(
+    h: Head,
+    keys: &[u32],
+    values: &[u32],
+    journal: &mut [u8],
+    survived: usize,
+    out: &mut [u8],
+) -> usize
     requires { ⌜ textBytes ≤ length (now out) ⌝ }
-    ensures { λ r. ⌜ Reported (now (journal .entry)) survived (now (out .entry)) r (now (journal .exit)) (now (out .exit)) ⌝ }
+    ensures { λ r. ⌜ Reported h (now (keys .entry)) (now (values .entry)) (now (journal .entry)) survived (now (out .entry)) r (now (journal .exit)) (now (out .exit)) ⌝ }
 {
-    let none = [0u32; 1];
-    let outcome = journal_recovery::recover(Head::empty(), &none, &none, journal, survived);
+    let outcome = journal_recovery::recover(h, keys, values, journal, survived);
     let answer = outcome.answer;
     match answer {
         Done::Refused(refusal) => refused(out, refusal),
-        Done::Accepted => listing(out, outcome.head, journal),
+        Done::Accepted => listing(out, outcome.head, keys, values, journal),
     }
 }

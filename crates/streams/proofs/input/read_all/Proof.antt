@@ -4,9 +4,9 @@ use mathlib.Core.Path.{_≡_, sym, _∙_}
 use native.Mathlib.Omega.{arith}
 use lib.ListN.{length, length-take, length-drop}
 use borrow.Author.Needs.{needs}
-use Rattle.list.specs.Moves.{goes-on, stops}
-use Rattle.list.proofs.input.read_all.Statement.{statement}
-use Rattle.list.proofs.input.read_all.Tie as tie
+use Rattle.streams.specs.Moves.{goes-on, stops}
+use Rattle.streams.proofs.input.read_all.Statement.{statement}
+use Rattle.streams.proofs.input.read_all.Tie as tie
 
 abbrev Inv-loop : tie.InvT-loop
 Inv-loop fd buffer₀ done₀ left₀ buffer done left = (done ≤ length buffer) × (length buffer ≡ length buffer₀)

@@ -1,11 +1,13 @@
 // Writing a whole text.
 ghost use Prim.Native.Nat.{_≤_};
 ghost use lib.ListN.{length};
-ghost use Rattle.list.specs.Moves.{Within};
+ghost use Rattle.streams.specs.Moves.{Within};
 use crate::moves::Moved;
 use crate::moves::Step;
 use crate::moves::moved_by;
 use crate::moves::next_step;
+use libc::STDERR_FILENO;
+use libc::STDOUT_FILENO;
 
 // One write of what is left.
 fn write_on(fd: i32, rest: &[u8]) -> Moved
@@ -34,4 +36,18 @@ pub fn write_all(fd: i32, text: &[u8]) -> usize
         }
     }
     done
+}
+
+// One line on standard error. Where that fails too, there is nobody to tell.
+pub fn say(line: &[u8]) {
+    write_all(STDERR_FILENO, line);
+}
+
+// A text to standard output, and the line that tells how the program ended.
+pub fn print(text: &[u8], line: &[u8]) {
+    if write_all(STDOUT_FILENO, text) < text.len() {
+        say(b"listing: the listing could not be written\n");
+        return;
+    }
+    say(line);
 }

@@ -1,6 +1,6 @@
 // Reading to the end of the input, where a read that failed is never taken for the end.
 ghost use lib.ListN.{length};
-ghost use Rattle.list.specs.Moves.{Within, Fits};
+ghost use Rattle.streams.specs.Moves.{Within, Fits};
 use crate::moves::Moved;
 use crate::moves::Step;
 use crate::moves::moved_by;

@@ -1,8 +1,8 @@
 -- `write_on` moves bytes that are there, as C's write does. Assumes nothing.
-use Rattle.list.specs.Moves.{moved-within}
+use Rattle.streams.specs.Moves.{moved-within}
 use borrow.Author.Needs.{needs}
-use Rattle.list.proofs.output.write_on.Statement.{statement}
-use Rattle.list.proofs.output.write_on.Tie as tie
+use Rattle.streams.proofs.output.write_on.Statement.{statement}
+use Rattle.streams.proofs.output.write_on.Tie as tie
 
 returns : tie.Need-returns
 returns c =

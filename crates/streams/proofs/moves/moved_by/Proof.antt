@@ -12,10 +12,10 @@ use mir.ValLaws.{toZ-ofZ}
 use native.Mathlib.Omega.{arith}
 use borrow.Author.Tests.{ne-eqb, lt-ltb}
 use Rattle.rules.specs.Bools.{not-both}
-use Rattle.list.specs.declared.moves.Moved.the-variants.{Bytes, Nothing, Interrupted, Failed}
-use Rattle.list.specs.Moves.{movedBy, isInterrupted}
-use Rattle.list.proofs.moves.moved_by.Statement.{statement}
-use Rattle.list.proofs.moves.moved_by.Tie as tie
+use Rattle.streams.specs.declared.moves.Moved.the-variants.{Bytes, Nothing, Interrupted, Failed}
+use Rattle.streams.specs.Moves.{movedBy, isInterrupted}
+use Rattle.streams.proofs.moves.moved_by.Statement.{statement}
+use Rattle.streams.proofs.moves.moved_by.Tie as tie
 
 counted : (z : ℤ) → ltZ (pos 0) z ≡ true → T (nonNeg z)
 counted (pos n) h = tt

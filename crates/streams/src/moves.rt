@@ -1,7 +1,7 @@
 // What one call of read or write did, and what follows it. Reading and writing share it.
 ghost use mathlib.Core.Path.{_≡_};
 ghost use Prim.Native.Nat.{_-_, _^_};
-ghost use Rattle.list.specs.Moves.{movedBy, stepOf, Within};
+ghost use Rattle.streams.specs.Moves.{movedBy, stepOf, Within};
 use crate::input::Input;
 use libc::EINTR;
 

@@ -1,8 +1,8 @@
 -- `read_on` moves bytes within the room, as C's read does. Assumes nothing.
-use Rattle.list.specs.Moves.{moved-within}
+use Rattle.streams.specs.Moves.{moved-within}
 use borrow.Author.Needs.{needs}
-use Rattle.list.proofs.input.read_on.Statement.{statement}
-use Rattle.list.proofs.input.read_on.Tie as tie
+use Rattle.streams.proofs.input.read_on.Statement.{statement}
+use Rattle.streams.proofs.input.read_on.Tie as tie
 
 returns : tie.Need-returns
 returns c =

@@ -11,12 +11,12 @@ use mir.Val.{toZ, ofZ}
 use mir.ValLaws.{toZ-ofZ}
 use Rattle.libc.specs.Io.{Moved as Answers}
 use Rattle.rules.specs.Bools.{split}
-use Rattle.list.specs.declared.input.Input.{Input}
-use Rattle.list.specs.declared.input.Input.the-variants as input
-use Rattle.list.specs.declared.moves.Moved.{Moved}
-use Rattle.list.specs.declared.moves.Moved.the-variants as moved
-use Rattle.list.specs.declared.moves.Step.{Step}
-use Rattle.list.specs.declared.moves.Step.the-variants as step
+use Rattle.streams.specs.declared.input.Input.{Input}
+use Rattle.streams.specs.declared.input.Input.the-variants as input
+use Rattle.streams.specs.declared.moves.Moved.{Moved}
+use Rattle.streams.specs.declared.moves.Moved.the-variants as moved
+use Rattle.streams.specs.declared.moves.Step.{Step}
+use Rattle.streams.specs.declared.moves.Step.the-variants as step
 
 -- whether errno is EINTR, 4: a signal came before a byte was moved
 abbrev pub isInterrupted : ℤ → Bool

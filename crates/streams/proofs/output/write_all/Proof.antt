@@ -4,9 +4,9 @@ use mathlib.Core.Path.{_≡_, sym, _∙_}
 use native.Mathlib.Omega.{arith}
 use lib.ListN.{length, length-take, length-drop}
 use borrow.Author.Needs.{needs}
-use Rattle.list.specs.Moves.{goes-on}
-use Rattle.list.proofs.output.write_all.Statement.{statement}
-use Rattle.list.proofs.output.write_all.Tie as tie
+use Rattle.streams.specs.Moves.{goes-on}
+use Rattle.streams.proofs.output.write_all.Statement.{statement}
+use Rattle.streams.proofs.output.write_all.Tie as tie
 
 abbrev Inv-loop : tie.InvT-loop
 Inv-loop fd text done₀ left₀ done left = done ≤ length text

@@ -2,12 +2,12 @@
 use mathlib.Core.Path.{_≡_, refl, ap}
 use Prim.Native.Nat.{ℕ, zero, suc, _-_}
 use native.Mathlib.Omega.{arith}
-use Rattle.list.specs.declared.moves.Moved.the-variants.{Interrupted}
-use Rattle.list.specs.declared.moves.Step.the-variants.{On}
-use Rattle.list.specs.Moves.{stepOf}
+use Rattle.streams.specs.declared.moves.Moved.the-variants.{Interrupted}
+use Rattle.streams.specs.declared.moves.Step.the-variants.{On}
+use Rattle.streams.specs.Moves.{stepOf}
 use borrow.Author.Needs.{needs}
-use Rattle.list.proofs.moves.next_step.Statement.{statement}
-use Rattle.list.proofs.moves.next_step.Tie as tie
+use Rattle.streams.proofs.moves.next_step.Statement.{statement}
+use Rattle.streams.proofs.moves.next_step.Tie as tie
 
 again : (done left : ℕ) → (left ≡ 0 → ⊥) → On done (left - 1) ≡ stepOf Interrupted done left
 again done zero h = absurd (h refl)
