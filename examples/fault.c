@@ -1,4 +1,4 @@
-/* Loaded into the listing program by examples/check: its calls of read and write do what the variable FAULT says. No header is needed, so that the
+/* Loaded into the listing programs by examples/check: their calls of read and write do what the variable FAULT says. No header is needed, so that the
    toolchain's compiler is enough. Calls of other programs go through as they are. */
 extern char *program_invocation_short_name;
 char *getenv(const char *name);
@@ -11,10 +11,15 @@ enum { EINTR = 4, EIO = 5, ENOSPC = 28 };
 
 static long reads, writes;
 
+static int listing(void)
+{
+    return !strcmp(program_invocation_short_name, "list") || !strcmp(program_invocation_short_name, "list_store");
+}
+
 static int is(const char *fault)
 {
     const char *asked = getenv("FAULT");
-    return asked && !strcmp(program_invocation_short_name, "list") && !strcmp(asked, fault);
+    return asked && listing() && !strcmp(asked, fault);
 }
 
 static long failed(int error)
