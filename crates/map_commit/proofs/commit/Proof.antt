@@ -55,11 +55,10 @@ returns-2 c =
     let sh = e1 .before in
     let a = sh .before .before .before .before .args in
     let cs = columns (now (a .keys)) (now (a .times)) (now (a .values)) in
-    let m = meaning (a .h) cs in
     commit-turned-down (a .n) (a .t) (a .h) cs (sym (sh .shaped .ensures .0) ∙ not-false _ (e1 .if1 .left)) _
     UnknownTransaction (c .refused2 .ensures)
-    (say 2 (mapAnswer (roomOf (length (now (a .keys)))) (Commit (a .n) (a .t)) m) Absent
-    (commit-unknown m (a .n) (place-none (a .h .slots) (a .n) _ (fd .find .ensures .0) (et .enum-told .given .1)) (roomOf (length (now (a .keys)))) (a .t)))
+    (say 2 (mapAnswer (roomOf (length (now (a .keys)))) (Commit (a .n) (a .t)) (meaning (a .h) cs)) Absent
+    (commit-unknown (meaning (a .h) cs) (a .n) (place-none (a .h .slots) (a .n) _ (fd .find .ensures .0) (et .enum-told .given .1)) (roomOf (length (now (a .keys)))) (a .t)))
 
 returns-3 : tie.Need-returns-3
 returns-3 c =
@@ -70,11 +69,10 @@ returns-3 c =
     let sh = e1 .before in
     let a = sh .before .before .before .before .args in
     let cs = columns (now (a .keys)) (now (a .times)) (now (a .values)) in
-    let m = meaning (a .h) cs in
     commit-turned-down (a .n) (a .t) (a .h) cs (sym (sh .shaped .ensures .0) ∙ not-false _ (e1 .if1 .left)) _
     NotLater (c .refused3 .ensures)
-    (say 10 (mapAnswer (roomOf (length (now (a .keys)))) (Commit (a .n) (a .t)) m) Absent
-    (commit-later m (a .n) _ _ _ (place-found (a .h .slots) (a .n) _ (fd .find .ensures .0) _ (fo .found .given .1)) (roomOf (length (now (a .keys)))) (a .t) (t2 .if2 .taken)))
+    (say 10 (mapAnswer (roomOf (length (now (a .keys)))) (Commit (a .n) (a .t)) (meaning (a .h) cs)) Absent
+    (commit-later (meaning (a .h) cs) (a .n) _ _ _ (place-found (a .h .slots) (a .n) _ (fd .find .ensures .0) _ (fo .found .given .1)) (roomOf (length (now (a .keys)))) (a .t) (t2 .if2 .taken)))
 
 mul-s : tie.Need-mul-s
 mul-s c =
@@ -112,11 +110,10 @@ returns-4 c =
     let sh = e1 .before in
     let a = sh .before .before .before .before .args in
     let cs = columns (now (a .keys)) (now (a .times)) (now (a .values)) in
-    let m = meaning (a .h) cs in
     commit-turned-down (a .n) (a .t) (a .h) cs (sym (sh .shaped .ensures .0) ∙ not-false _ (e1 .if1 .left)) _
     Conflict (c .refused4 .ensures)
-    (say 11 (mapAnswer (roomOf (length (now (a .keys)))) (Commit (a .n) (a .t)) m) Absent
-    (commit-conflict m (a .n) _ _ _ (place-found (a .h .slots) (a .n) _ (fd .find .ensures .0) _ (fo .found .given .1)) (roomOf (length (now (a .keys)))) (a .t) (e2 .if2 .left) _
+    (say 11 (mapAnswer (roomOf (length (now (a .keys)))) (Commit (a .n) (a .t)) (meaning (a .h) cs)) Absent
+    (commit-conflict (meaning (a .h) cs) (a .n) _ _ _ (place-found (a .h .slots) (a .n) _ (fd .find .ensures .0) _ (fo .found .given .1)) (roomOf (length (now (a .keys)))) (a .t) (e2 .if2 .left) _
     (co .conflicts .ensures cs) (t3 .if3 .taken)))
 
 count-written-requires : tie.Need-count-written-requires
@@ -158,11 +155,10 @@ returns-5 c =
     let sh = e1 .before in
     let a = sh .before .before .before .before .args in
     let cs = columns (now (a .keys)) (now (a .times)) (now (a .values)) in
-    let m = meaning (a .h) cs in
     commit-turned-down (a .n) (a .t) (a .h) cs (sym (sh .shaped .ensures .0) ∙ not-false _ (e1 .if1 .left)) _
     NoRoom (c .refused5 .ensures)
-    (say 12 (mapAnswer (roomOf (length (now (a .keys)))) (Commit (a .n) (a .t)) m) Absent
-    (commit-room m (a .n) _ _ _ (place-found (a .h .slots) (a .n) _ (fd .find .ensures .0) _ (fo .found .given .1)) (roomOf (length (now (a .keys)))) (a .t) (e2 .if2 .left) _
+    (say 12 (mapAnswer (roomOf (length (now (a .keys)))) (Commit (a .n) (a .t)) (meaning (a .h) cs)) Absent
+    (commit-room (meaning (a .h) cs) (a .n) _ _ _ (place-found (a .h .slots) (a .n) _ (fd .find .ensures .0) _ (fo .found .given .1)) (roomOf (length (now (a .keys)))) (a .t) (e2 .if2 .left) _
     (co .conflicts .ensures cs) (e3 .if3 .left) (a .h .used) _ (length-versions (a .h .used) cs)
     (cw .count-written .ensures) (rw (rm .room .ensures) at (t4 .if4 .taken))))
 
@@ -208,11 +204,10 @@ returns-6 c =
     let sh = e1 .before in
     let a = sh .before .before .before .before .args in
     let cs = columns (now (a .keys)) (now (a .times)) (now (a .values)) in
-    let m = meaning (a .h) cs in
     commit-carried-out (a .n) (a .t) (a .h) cs (sym (sh .shaped .ensures .0) ∙ not-false _ (e1 .if1 .left))
     _ _
-    (say 0 (mapAnswer (roomOf (length (now (a .keys)))) (Commit (a .n) (a .t)) m) Absent
-    (commit-done m (a .n) _ _ _ (place-found (a .h .slots) (a .n) _ (fd .find .ensures .0) _ (fo .found .given .1)) (roomOf (length (now (a .keys)))) (a .t) (e2 .if2 .left) _
+    (say 0 (mapAnswer (roomOf (length (now (a .keys)))) (Commit (a .n) (a .t)) (meaning (a .h) cs)) Absent
+    (commit-done (meaning (a .h) cs) (a .n) _ _ _ (place-found (a .h .slots) (a .n) _ (fd .find .ensures .0) _ (fo .found .given .1)) (roomOf (length (now (a .keys)))) (a .t) (e2 .if2 .left) _
     (co .conflicts .ensures cs) (e3 .if3 .left) (a .h .used) _ (length-versions (a .h .used) cs)
     (cw .count-written .ensures) (rw (rm .room .ensures) at (e4 .if4 .left))))
     (freed (a .n) (a .t) (a .h) cs _ _ (fd .find .ensures .0) _ (fo .found .given .1) _ (sp .stamp .ensures)

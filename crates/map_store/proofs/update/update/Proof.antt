@@ -54,11 +54,10 @@ returns-2 c =
     let sh = e1 .before in
     let a = sh .before .before .before .before .args in
     let cs = columns (now (a .keys)) (now (a .times)) (now (a .values)) in
-    let m = meaning (a .h) cs in
     turned-down (Update (a .n) (a .k) (a .e)) (a .h) cs
     (sym (sh .shaped .ensures .0) ∙ not-false _ (e1 .if1 .left)) _ UnknownTransaction (c .refused2 .ensures)
-    (say 2 (mapRefusal (Update (a .n) (a .k) (a .e)) m) Absent
-    (update-unknown m (a .n) (place-none (a .h .slots) (a .n) _ (fd .find .ensures .0) (et .enum-told .given .1)) (a .k) (a .e)))
+    (say 2 (mapRefusal (Update (a .n) (a .k) (a .e)) (meaning (a .h) cs)) Absent
+    (update-unknown (meaning (a .h) cs) (a .n) (place-none (a .h .slots) (a .n) _ (fd .find .ensures .0) (et .enum-told .given .1)) (a .k) (a .e)))
 
 returns-3 : tie.Need-returns-3
 returns-3 c =
@@ -69,11 +68,10 @@ returns-3 c =
     let sh = e1 .before in
     let a = sh .before .before .before .before .args in
     let cs = columns (now (a .keys)) (now (a .times)) (now (a .values)) in
-    let m = meaning (a .h) cs in
     turned-down (Update (a .n) (a .k) (a .e)) (a .h) cs
     (sym (sh .shaped .ensures .0) ∙ not-false _ (e1 .if1 .left)) _ BadKey (c .refused3 .ensures)
-    (say 3 (mapRefusal (Update (a .n) (a .k) (a .e)) m) Absent
-    (update-key m (a .n) _ _ _ (place-found (a .h .slots) (a .n) _ (fd .find .ensures .0) _ (fo .found .given .1)) (a .k) (a .e) (t2 .if2 .taken)))
+    (say 3 (mapRefusal (Update (a .n) (a .k) (a .e)) (meaning (a .h) cs)) Absent
+    (update-key (meaning (a .h) cs) (a .n) _ _ _ (place-found (a .h .slots) (a .n) _ (fd .find .ensures .0) _ (fo .found .given .1)) (a .k) (a .e) (t2 .if2 .taken)))
 
 mul-s : tie.Need-mul-s
 mul-s c =
@@ -108,11 +106,10 @@ returns-4 c =
     let sh = e1 .before in
     let a = sh .before .before .before .before .args in
     let cs = columns (now (a .keys)) (now (a .times)) (now (a .values)) in
-    let m = meaning (a .h) cs in
     turned-down (Update (a .n) (a .k) (a .e)) (a .h) cs
     (sym (sh .shaped .ensures .0) ∙ not-false _ (e1 .if1 .left)) _ KeysFull (c .refused4 .ensures)
-    (say 8 (mapRefusal (Update (a .n) (a .k) (a .e)) m) Absent
-    (update-full m (a .n) _ _ _ (place-found (a .h .slots) (a .n) _ (fd .find .ensures .0) _ (fo .found .given .1)) (a .k) (a .e) (e2 .if2 .left)
+    (say 8 (mapRefusal (Update (a .n) (a .k) (a .e)) (meaning (a .h) cs)) Absent
+    (update-full (meaning (a .h) cs) (a .n) _ _ _ (place-found (a .h .slots) (a .n) _ (fd .find .ensures .0) _ (fo .found .given .1)) (a .k) (a .e) (e2 .if2 .left)
     _ (fl .is-full .ensures) (t3 .if3 .taken)))
 
 running-value-requires : tie.Need-running-value-requires
@@ -153,13 +150,12 @@ returns-5 c =
     let sh = e1 .before in
     let a = sh .before .before .before .before .args in
     let cs = columns (now (a .keys)) (now (a .times)) (now (a .values)) in
-    let m = meaning (a .h) cs in
     carried-out (Update (a .n) (a .k) (a .e)) (a .h) cs
     (sym (sh .shaped .ensures .0) ∙ not-false _ (e1 .if1 .left)) _ _ (c .accepted .ensures)
-    (say 0 (mapRefusal (Update (a .n) (a .k) (a .e)) m) Absent
-    (update-fits m (a .n) _ _ _ (place-found (a .h .slots) (a .n) _ (fd .find .ensures .0) _ (fo .found .given .1)) (a .k) (a .e) (e2 .if2 .left)
+    (say 0 (mapRefusal (Update (a .n) (a .k) (a .e)) (meaning (a .h) cs)) Absent
+    (update-fits (meaning (a .h) cs) (a .n) _ _ _ (place-found (a .h .slots) (a .n) _ (fd .find .ensures .0) _ (fo .found .given .1)) (a .k) (a .e) (e2 .if2 .left)
     _ (fl .is-full .ensures) (e3 .if3 .left)))
-    (changed (a .h) (a .n) (a .k) (a .e) (m .versions) _ (fd .find .ensures .0) _ (fo .found .given .1) _ (rv .running-value .ensures) _ (nt .note .ensures))
+    (changed (a .h) (a .n) (a .k) (a .e) ((meaning (a .h) cs) .versions) _ (fd .find .ensures .0) _ (fo .found .given .1) _ (rv .running-value .ensures) _ (nt .note .ensures))
 
 pub update-spec : {M : Type 1} → statement M
 update-spec =
