@@ -1,7 +1,6 @@
 -- Files and what is printed for them, computed from bytes to text. Assumes nothing.
 use mathlib.Core.Path.{_≡_, refl}
-use mathlib.Core.List.{List, [], _∷_, _++_}
-use Prim.Native.Nat.{ℕ}
+use mathlib.Core.List.{[], _∷_, _++_}
 use Rattle.decimal.specs.Digits.{digits, digitsIn}
 use Rattle.report.specs.Text.{timeIs, keysIs, keyIs, valueIs, newline}
 use Rattle.store_file.specs.Examples.{none, two}

@@ -1,6 +1,6 @@
 -- What the calls give: the report from a byte on, and what is printed and said for a whole store and for anything else. Assumes nothing.
 use mathlib.Core.Path.{_≡_, refl, sym, ap, _∙_}
-use mathlib.Core.Bool.{Bool, true, false, cond}
+use mathlib.Core.Bool.{Bool, false, cond}
 use mathlib.Core.List.{List, _++_, append-nil}
 use Prim.Native.Nat.{ℕ, _-_, _≤_}
 use native.Mathlib.Omega.{arith}
@@ -17,7 +17,7 @@ use Rattle.report.specs.Refused.{isRefused, letter-tells}
 use Rattle.store_file.specs.Layout.{journalAt, isWhole, headOf, baseKeys, baseValues, journalOf}
 use Rattle.store_file.specs.Laws.{WholeAt}
 use Rattle.list_store.specs.declared.Outcome.the-variants.{Listed, Refused, Broken}
-use Rattle.list_store.specs.Text.{noStore, storeText, storeCells, outcomeOf, Output, ReportedFrom}
+use Rattle.list_store.specs.Text.{noStore, storeText, outcomeOf, Output, ReportedFrom}
 
 -- the report of the part of a file from a byte on, with the part back in its place
 pub reported-from : (h : Head) (keys values file : List ℕ) (start : ℕ) {out part out' : List ℕ} {r : ℕ} → start ≤ length file

@@ -1,5 +1,5 @@
 -- `store_file::is_whole` meets its contract: the tests are the definition's, one after the other. Assumes nothing.
-use mathlib.Core.Path.{_≡_, sym, ap, _∙_}
+use mathlib.Core.Path.{_≡_, sym}
 use mathlib.Core.Bool.{false}
 use mathlib.Core.List.{List}
 use Prim.Native.Nat.{ℕ, _+_, _*_, _≤_, _<_}
@@ -80,7 +80,8 @@ returns-4 c =
     let f1 = e2 .before in
     let e1 = f1 .before in
     let file = now (e1 .before .before .args .file) in
-    cut file (e1 .if1 .left) (f1 .field .result) (f1 .field .ensures .value) (e2 .if2 .left) (f2 .field2 .result) (f2 .field2 .ensures .value) (e3 .if3 .left) (c .if4 .taken)
+    cut file (e1 .if1 .left) (f1 .field .result) (f1 .field .ensures .value) (e2 .if2 .left) (f2 .field2 .result) (f2 .field2 .ensures .value)
+    (e3 .if3 .left) (c .if4 .taken)
 
 slice-aggregate-sum : tie.Need-slice-aggregate-sum
 slice-aggregate-sum c =
@@ -98,7 +99,8 @@ returns-5 c =
     let f1 = e2 .before in
     let e1 = f1 .before in
     let file = now (e1 .before .before .args .file) in
-    summed file (e1 .if1 .left) (f1 .field .result) (f1 .field .ensures .value) (e2 .if2 .left) (f2 .field2 .result) (f2 .field2 .ensures .value) (e3 .if3 .left) (e4 .if4 .left) (sm .sum .result) (c .field3 .result) (sm .sum .ensures) (c .field3 .ensures .value)
+    summed file (e1 .if1 .left) (f1 .field .result) (f1 .field .ensures .value) (e2 .if2 .left) (f2 .field2 .result) (f2 .field2 .ensures .value)
+    (e3 .if3 .left) (e4 .if4 .left) (sm .sum .result) (c .field3 .result) (sm .sum .ensures) (c .field3 .ensures .value)
 
 pub is-whole-spec : {M : Type 1} → statement M
 is-whole-spec =
