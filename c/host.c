@@ -96,6 +96,8 @@ static void replace(void)
 {
     static uint8_t front[REGISTERS_FILE_FRONT_BYTES];
     size_t count = registers_file_write(head, keys, values, front, sizeof front);
+    if (count == 0)
+        stop("store.new", registers_text(REGISTERS_BAD_SHAPE));
     int file = openat(folder, "store.new", O_WRONLY | O_CREAT | O_TRUNC | O_CLOEXEC, 0666);
     need(file >= 0, "creating store.new");
     stored = head.used * REGISTERS_RECORD_BYTES;
@@ -203,6 +205,21 @@ static int is(const char *line, const char *command, const char *takes, uint64_t
     return strcmp(line, "\n") == 0;
 }
 
+/* The next line, with its end, whatever bytes it has. Of one that is too long the room gets its start alone, without an
+ * end: it is no command, and neither is what is left of it. */
+static int next_line(char *line, size_t room)
+{
+    size_t count = 0;
+    int byte;
+    do {
+        byte = getchar();
+        if (byte != EOF && count + 1 < room)
+            line[count++] = (char)byte;
+    } while (byte != EOF && byte != '\n');
+    line[count] = 0;
+    return count > 0 && !ferror(stdin);
+}
+
 static void obey(const char *line)
 {
     uint64_t a[3];
@@ -239,7 +256,7 @@ int main(int count, char **words)
         stop(words[1], errno == EWOULDBLOCK ? "another host has it" : strerror(errno));
     start(salvage);
     printf("ready %" PRIu64 "\n", registers_journal_last(head, journal));
-    while (fflush(stdout) == 0 && fgets(line, sizeof line, stdin) != NULL)
+    while (fflush(stdout) == 0 && next_line(line, sizeof line))
         obey(line);
     if (ferror(stdin) || ferror(stdout))
         stop("the commands", "reading or answering failed");
