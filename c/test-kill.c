@@ -9,6 +9,7 @@
 #include <sys/time.h>
 #include <time.h>
 
+enum { SECOND = 1000000 };
 static const char *program, *folder;
 static volatile pid_t victim;
 
@@ -31,7 +32,7 @@ static void kill_victim(int signal)
 
 static void kill_after(uint64_t microseconds)
 {
-    struct itimerval when = {{0, 0}, {0, (suseconds_t)microseconds}};
+    struct itimerval when = {{0, 0}, {(time_t)(microseconds / SECOND), (suseconds_t)(microseconds % SECOND)}};
     must(setitimer(ITIMER_REAL, &when, NULL) == 0, "no timer");
 }
 
@@ -87,9 +88,20 @@ static int compare_all(struct host *host)
     return 1;
 }
 
-/* One life of the host, from its start to its death. */
+static uint64_t microseconds_now(void)
+{
+    struct timespec now;
+    must(clock_gettime(CLOCK_MONOTONIC, &now) == 0, "no clock");
+    return (uint64_t)now.tv_sec * SECOND + (uint64_t)now.tv_nsec / 1000;
+}
+
+/* One life of the host, from its start to its death: at a moment of its start, or of its time behind that. That is
+ * longer where the start took long, since a medium whose flush is slow answers few commits in a short one. */
 static void live(struct host *host)
 {
+    int early = random_below(3) == 0;
+    uint64_t began = microseconds_now();
+    kill_after(early ? 1 + random_below(5000) : 60 * SECOND);
     char answer[LINE];
     struct request request;
     if (!heard(host, answer)) {
@@ -97,6 +109,8 @@ static void live(struct host *host)
         return;
     }
     resolve(answer);
+    if (!early)
+        kill_after(1 + random_below(60000 + 4 * (microseconds_now() - began)));
     if (!compare_all(host)) {
         kills_in_check++;
         return;
@@ -116,7 +130,6 @@ static void one_kill(void)
 {
     struct host host = host_started(run);
     victim = host.pid;
-    kill_after(1 + random_below(random_below(3) == 0 ? 5000 : 60000));
     live(&host);
     kill_after(0);
     int status = host_ended(&host);
@@ -137,6 +150,7 @@ int main(int count, char **words)
     must(sigaction(SIGALRM, &action, NULL) == 0 && signal(SIGPIPE, SIG_IGN) != SIG_ERR, "no signals");
     for (unsigned long i = 0; i < kills; i++)
         one_kill();
+    must(answered > 0, "no commit was answered, so that nothing was tried");
     struct host host = host_started(run);
     must(heard(&host, answer), "the host does not start");
     resolve(answer);
