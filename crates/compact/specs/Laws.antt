@@ -119,9 +119,9 @@ survivors-column low used late rs entry numbers h l =
     ∙ only-sifted low (done rs) rs h
 
 -- the records that stay have moved up, and zeros stand behind them
-pub settled : (stay rest : List Record) (b moved exit : List ℕ) (used n end : ℕ) → Moved rest b used n moved → rest ≡ stay → used * recordBytes ≤ end
+pub moved-up : (stay rest : List Record) (b moved exit : List ℕ) (used n end : ℕ) → Moved rest b used n moved → rest ≡ stay → used * recordBytes ≤ end
     → exit ≡ zeroed moved (n * recordBytes) end → Compacted stay end b n exit
-settled stay rest b moved exit used n end m e l z =
+moved-up stay rest b moved exit used n end m e l z =
     let c : n ≡ length stay = m .count ∙ ap length e in
     let w : used * recordBytes + (end - used * recordBytes) ≡ end = omega arith in
     let back : drop end moved ≡ drop end b =

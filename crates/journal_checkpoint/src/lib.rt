@@ -10,7 +10,7 @@ ghost use Rattle.rules.specs.Calls.{checkpointRefusal};
 ghost use Rattle.record.specs.Bytes.{recordsIn};
 ghost use Rattle.answer.specs.Reply.{ofDone, told, refused as refusedBy};
 ghost use Rattle.values.specs.Pass.{Inside};
-ghost use Rattle.listing.specs.Settled.{Cells};
+ghost use Rattle.listing.specs.Settled.{Ample};
 ghost use Rattle.journal_store.specs.Shape.{Shaped, meaning, rowRoom};
 ghost use Rattle.journal_store.specs.Contracts.{Checkpointed, Settled};
 use answer::Done;
@@ -72,7 +72,7 @@ fn settle_by(
     listed: &mut [u32],
     contents: &mut [u32],
 ) -> usize
-    requires { ⌜ Inside (now keys) (now values) rows (now journal) used × Cells rows used (now listed) (now contents) × (length (now keys) ≡ length (now values)) ⌝ }
+    requires { ⌜ Inside (now keys) (now values) rows (now journal) used × Ample rows used (now listed) (now contents) × (length (now keys) ≡ length (now values)) ⌝ }
     ensures { λ n. ⌜ Settled (rowRoom (length (now (keys .entry)))) (listAt (firstRows rows (now (keys .entry)) (now (values .entry))) (recordsIn used (now (journal .entry))) t) (now (keys .entry)) (now (values .entry)) n (now (keys .exit)) (now (values .exit)) ⌝ }
 {
     let count = listing::listing(keys, values, rows, journal, used, t, listed, contents);

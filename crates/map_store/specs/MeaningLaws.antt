@@ -24,7 +24,7 @@ use Rattle.slot.specs.PlaceLaws.{empty-places, opened-places, closed-places, no
 use Rattle.slot.specs.RowLaws.{cases, length-rows}
 use Rattle.versions.specs.declared.Version.{Version}
 use Rattle.versions.specs.Versions.{Columns, versionsOf, keptFrom}
-use Rattle.versions.specs.Columns.{Spans, Long, column, settled, thinned}
+use Rattle.versions.specs.Columns.{Spans, Long, column, thinnedColumn, thinned}
 use Rattle.versions.specs.Laws.{long-self, lent-fewer, lent-long, each-long, none-lent, appended-versions, kept-versions, length-column, length-kept, length-versions}
 use Rattle.map_store.specs.declared.MapHead.{MapHead}
 use Rattle.map_store.specs.Meaning.{MapStore, emptyMap, current, mapRefusal, mapAnswer, mapAfter, versionOf, stamp, checkpointed}
@@ -209,8 +209,8 @@ module _ (h : MapHead) (cs : Columns) (w : Shaped h (lengths cs)) where
     kept = keptFrom T (versionsOf (h .used) cs)
 
     -- a column keeps its length
-    length-settled : (field : Version → ℕ) (cells : List ℕ) → h .used ≤ length cells → length (settled field kept (h .used) cells) ≡ length cells
-    length-settled field cells l =
+    length-thinned-column : (field : Version → ℕ) (cells : List ℕ) → h .used ≤ length cells → length (thinnedColumn field kept (h .used) cells) ≡ length cells
+    length-thinned-column field cells l =
         let m = length-kept T (h .used) cs in
         rw (
           length-append (column field kept) (replicate {A = ℕ} (h .used - length kept) 0 ++ drop (h .used) cells),
@@ -229,7 +229,7 @@ module _ (h : MapHead) (cs : Columns) (w : Shaped h (lengths cs)) where
     pub checkpoint-shaped : Shaped (keptHead T h (versionsOf (h .used) cs)) (lengths (thinned T (h .used) cs))
     checkpoint-shaped =
         let m = length-kept T (h .used) cs in
-        shaped-long (keptHead T h (versionsOf (h .used) cs)) (each-long (lent h cs w) (λ field. settled field kept (h .used)) length-settled (long-self cs))
+        shaped-long (keptHead T h (versionsOf (h .used) cs)) (each-long (lent h cs w) (λ field. thinnedColumn field kept (h .used)) length-thinned-column (long-self cs))
         (record {
           limit = omega (arith, w .limit);
           rows = omega (arith, w .rows);

@@ -8,7 +8,7 @@ use lib.ListN.{length, getD, take, drop, set, replicate, length-append, length-s
 use lib.Seq.{length-take-le, drop-cons, drop-drop, drop-append-add, getD-append-add, getD-drop, set-at, take-at}
 use Rattle.versions.specs.declared.Version.{Version}
 use Rattle.versions.specs.Versions.{Columns}
-use Rattle.versions.specs.Columns.{Long, each, column, over, zeroed, settled}
+use Rattle.versions.specs.Columns.{Long, each, column, over, zeroed, thinnedColumn}
 use Rattle.versions.specs.Laws.{each-long, none-lent, length-column}
 
 -- one cell of each column is written
@@ -53,7 +53,7 @@ module _ (field : Version → ℕ) (rows : List Version) (cells : List ℕ) wher
   over-more v h = front-more (column field rows) cells (length rows) (field v) (length-column field rows) h
 
   -- the rows that are left over are cleared
-  pub over-cleared : (n : ℕ) → length rows ≤ n → zeroed (length rows) n (over field rows cells) ≡ settled field rows n cells
+  pub over-cleared : (n : ℕ) → length rows ≤ n → zeroed (length rows) n (over field rows cells) ≡ thinnedColumn field rows n cells
   over-cleared n l =
       let z : n ≡ length (column field rows) + (n - length rows) = rw length-column (omega arith) in
       let y : length rows + (n - length rows) ≡ n = omega arith in

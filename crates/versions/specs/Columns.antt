@@ -64,12 +64,12 @@ abbrev pub cleared : ℕ → ℕ → Columns → Columns
 cleared m n cs = each (λ field. zeroed m n) cs
 
 -- a column of n used rows after a checkpoint: what is kept, then zeros where rows are freed, then what stood behind the used rows
-abbrev pub settled : (Version → ℕ) → List Version → ℕ → List ℕ → List ℕ
-settled field kept n cells = column field kept ++ (replicate (n - length kept) 0 ++ drop n cells)
+abbrev pub thinnedColumn : (Version → ℕ) → List Version → ℕ → List ℕ → List ℕ
+thinnedColumn field kept n cells = column field kept ++ (replicate (n - length kept) 0 ++ drop n cells)
 
 -- the columns of n used rows after a checkpoint at T
 abbrev pub thinned : ℕ → ℕ → Columns → Columns
-thinned T n cs = each (λ field. settled field (keptFrom T (versionsOf n cs)) n) cs
+thinned T n cs = each (λ field. thinnedColumn field (keptFrom T (versionsOf n cs)) n) cs
 
 -- these, and how many versions they have
 pub record Kept (T n : ℕ) (cs cs' : Columns) (r : ℕ) : Type 0 where

@@ -2,7 +2,7 @@
 use mathlib.Core.Path.{refl}
 use Rattle.rules.specs.Recovery.{survivors}
 use Rattle.record.specs.Bytes.{recordsIn}
-use Rattle.compact.specs.Laws.{survivors-column, settled}
+use Rattle.compact.specs.Laws.{survivors-column, moved-up}
 use borrow.Author.Needs.{needs}
 use native.Mathlib.Omega.{arith}
 use denote.Ref.{now}
@@ -20,7 +20,7 @@ returns c =
     let s = l .before .before .before .before in
     let a = s .args in
     let rs = recordsIn (a .used) (now (a .journal)) in
-    settled (survivors rs) _ (now (a .journal)) _ _ (a .used) _ (a .end) (k .keep .ensures)
+    moved-up (survivors rs) _ (now (a .journal)) _ _ (a .used) _ (a .end) (k .keep .ensures)
     (survivors-column (a .low) (a .used) _ rs _ _ (s .pre .3) (l .late-numbers .ensures)) (s .pre .1) (z .zero .ensures)
 
 pub keep-done-spec : {M : Type 1} → statement M

@@ -4,7 +4,7 @@ use Prim.Native.Nat.{_*_}
 use Rattle.rules.specs.Kinds.{recordBytes}
 use Rattle.rules.specs.Checkpoints.{kept}
 use Rattle.record.specs.Bytes.{recordsIn}
-use Rattle.compact.specs.Laws.{kept-columns, settled}
+use Rattle.compact.specs.Laws.{kept-columns, moved-up}
 use borrow.Author.Needs.{needs}
 use native.Mathlib.Omega.{arith}
 use denote.Ref.{now}
@@ -22,7 +22,7 @@ returns c =
     let o = l .before .before .before .before in
     let a = o .before .before .before .before .args in
     let rs = recordsIn (a .used) (now (a .journal)) in
-    settled (kept (a .t) rs) _ (now (a .journal)) _ _ (a .used) _ (a .used * recordBytes) (k .keep .ensures)
+    moved-up (kept (a .t) rs) _ (now (a .journal)) _ _ (a .used) _ (a .used * recordBytes) (k .keep .ensures)
     (kept-columns (a .t) (a .used) _ _ rs _ _ _ _ (o .running-numbers .ensures) (l .late-numbers .ensures)) (omega arith) (z .zero .ensures)
 
 pub keep-running-spec : {M : Type 1} → statement M

@@ -15,7 +15,7 @@ use Rattle.answer.specs.declared.Refusal.the-variants.{NoRoom}
 use Rattle.answer.specs.Reply.{refused, accepted}
 use Rattle.values.specs.Pass.{Records}
 use Rattle.table.specs.Laws.{next-within, next-filled, next-copied}
-use Rattle.listing.specs.Settled.{Cells}
+use Rattle.listing.specs.Settled.{Ample}
 use Rattle.journal_store.specs.declared.Head.{Head}
 use Rattle.journal_store.specs.Shape.{meaning, Shaped}
 use Rattle.journal_store.specs.Contracts.{isListShaped, ListedBy}

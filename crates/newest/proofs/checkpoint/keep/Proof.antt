@@ -9,7 +9,7 @@ use denote.Ref.{now}
 use lib.ListN.{length, getD}
 use Rattle.versions.specs.declared.Version.{Version}
 use Rattle.versions.specs.Versions.{Columns, columns, versionAt, versionsOf, isKept, thin, keptFrom}
-use Rattle.versions.specs.Columns.{Spans, marked, over, Moved, zeroed, cleared, settled, Kept}
+use Rattle.versions.specs.Columns.{Spans, marked, over, Moved, zeroed, cleared, thinnedColumn, Kept}
 use Rattle.versions.specs.Laws.{length-versions, lent-long, each-same, length-kept}
 use Rattle.newest.proofs.Cells.{over-cleared}
 use Rattle.newest.proofs.checkpoint.keep.Statement.{statement}
@@ -37,7 +37,7 @@ module _ (marks : List Bool) (cs : Columns) (T n : ℕ) (h : (i : ℕ) → i < n
         count = up .count;
         cells =
             rw (w, up .cells, up .count)
-            (each-same l (λ field cells. zeroed (length kept) n (over field kept cells)) (λ field. settled field kept n)
+            (each-same l (λ field cells. zeroed (length kept) n (over field kept cells)) (λ field. thinnedColumn field kept n)
             (λ field cells k. over-cleared field kept cells n (length-kept T n cs)));
       }
 
