@@ -80,7 +80,8 @@ static size_t read_all(int file, uint8_t *bytes, size_t room)
 }
 
 /* Adds the records since the last writing to the file and flushes them: all together, since a transaction counts from
- * its commit on, and nothing that stands before it need be on the medium earlier. */
+ * its commit on, and nothing that stands before it need be on the medium earlier. In one write: of two that are not
+ * flushed yet a power loss may keep the second alone. */
 static void append(void)
 {
     size_t used = head.used * REGISTERS_RECORD_BYTES;

@@ -1,6 +1,6 @@
 -- Section 8: the eleven marked examples, from figure 7 (b) and (c) with x as key 1 and y as key 2, as one table under one claim. An example is its calls on
 -- two empty stores, a lookup, and what it gives; the claim has what each store answers to the lookup, shape test and all, behind the calls on lent cells.
--- What the calls make of the cells is what their contracts say (`wrote-by`, `versioned-by`). Assumes nothing.
+-- What the calls make of the cells is what their contracts say (`called-on`, `versioned-by`). Assumes nothing.
 use mathlib.Core.Path.{_≡_, refl}
 use mathlib.Core.List.{List, [], _∷_}
 use Prim.Native.Nat.{ℕ}
@@ -26,8 +26,8 @@ use Rattle.map_store.specs.Contracts as contract
 use Rattle.map_store.specs.Meaning as meaning
 
 -- what a call makes of the cells of a journal store
-abbrev wrote : Call → Cells → Cells
-wrote c x =
+abbrev calledOn : Call → Cells → Cells
+calledOn c x =
     after (number c (x .head) (x .keys) (x .values) (x .journal))
     (record {
       head = grown (x .head);
@@ -37,17 +37,17 @@ wrote c x =
     })
     x
 
-wrote-by : (c : Call) (x : Cells)
+called-on : (c : Call) (x : Cells)
     → Wrote c (x .head) (x .keys) (x .values) (x .journal) (told (number c (x .head) (x .keys) (x .values) (x .journal)) (gives c (meaningOf x)))
-    (wrote c x .head) (wrote c x .journal)
-wrote-by c x =
+    (calledOn c x .head) (calledOn c x .journal)
+called-on c x =
     let n = number c (x .head) (x .keys) (x .values) (x .journal) in
     record { reply = refl; headed = split (eqb n 0) (λ e. rw e) (λ e. rw e); cells = split (eqb n 0) (λ e. rw e) (λ e. rw e) }
 
 -- journal room for 20 records
 abbrev journalAfter : List Call → Cells
 journalAfter [] = record { head = emptyHead; keys = []; values = []; journal = replicate 480 0 }
-journalAfter (c ∷ cs) = wrote c (journalAfter cs)
+journalAfter (c ∷ cs) = calledOn c (journalAfter cs)
 
 -- what a begin, an update or an abort makes of a map store: no column changes
 abbrev noted : Call → MapCells → MapCells

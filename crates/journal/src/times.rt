@@ -121,7 +121,7 @@ pub fn is_future(journal: &[u8], used: usize, low: u64, t: u64) -> bool
 }
 
 // The greater of best and one more than a number. In 64 bits, so that the greatest number has a successor.
-pub(crate) fn above(best: u64, n: u32) -> u64
+pub(crate) fn at_least_after(best: u64, n: u32) -> u64
     ensures { λ v. ⌜ v ≡ max best (n + 1) ⌝ }
 {
     let over = n as u64 + 1;
@@ -139,7 +139,7 @@ fn above_step(r: Record, best: u64) -> u64
     if r.kind != Record::BEGIN {
         return best;
     }
-    above(best, r.transaction)
+    at_least_after(best, r.transaction)
 }
 
 // The greater of floor and one more than the highest number in a begin, but never above 4,294,967,295.

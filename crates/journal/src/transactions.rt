@@ -160,7 +160,7 @@ pub fn running_numbers(journal: &[u8], used: usize, numbers: &mut [u32]) -> usiz
             numbers[count] = r.transaction;
             count += 1;
         }
-        top = times::above(top, r.transaction);
+        top = times::at_least_after(top, r.transaction);
         i += 1;
     }
     count

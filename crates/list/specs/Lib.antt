@@ -1,4 +1,4 @@
 -- What a reader must believe, with its laws.
-pub mod Outcome
+pub mod Ending
 -- That no second answer satisfies a contract.
 pub mod Unique

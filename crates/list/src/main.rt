@@ -4,7 +4,7 @@ ghost use mathlib.Core.Path.{_≡_};
 ghost use Prim.Native.Nat.{_≤_};
 ghost use lib.ListN.{length};
 ghost use Rattle.report.specs.Text.{textBytes};
-ghost use Rattle.list.specs.Outcome.{Output, outcomeOf};
+ghost use Rattle.list.specs.Ending.{Output, endingOf};
 use journal::Journal;
 use journal_store::Head;
 use libc::STDIN_FILENO;
@@ -14,7 +14,7 @@ use streams::input::Input;
 use streams::output;
 
 // What the journal gave: a listing of its records, one of no record at all, or a refusal.
-enum Outcome {
+enum Ending {
     Listed,
     Empty,
     Refused,
@@ -23,44 +23,44 @@ enum Outcome {
 // The length of the text, and what it is.
 struct Told {
     count: usize,
-    outcome: Outcome,
+    ending: Ending,
 }
 
 // The text for the bytes that survived. That of a refusal alone starts with an r.
 fn report_on(journal: &mut [u8], survived: usize, text: &mut [u8]) -> Told
     requires { ⌜ textBytes ≤ length (now text) ⌝ }
     ensures { λ r. ⌜ Output (now (journal .entry)) survived (now (text .entry)) (r .count) (now (journal .exit)) (now (text .exit)) ⌝ }
-    ensures { λ r. ⌜ r .outcome ≡ outcomeOf (now (journal .entry)) survived ⌝ }
+    ensures { λ r. ⌜ r .ending ≡ endingOf (now (journal .entry)) survived ⌝ }
 {
     let none = [0u32; 1];
     let count = report::report(Head::empty(), &none, &none, journal, survived, text);
     if text[0] == b'r' {
         return Told {
             count,
-            outcome: Outcome::Refused,
+            ending: Ending::Refused,
         };
     }
     if survived < Record::BYTES {
         return Told {
             count,
-            outcome: Outcome::Empty,
+            ending: Ending::Empty,
         };
     }
     Told {
         count,
-        outcome: Outcome::Listed,
+        ending: Ending::Listed,
     }
 }
 
 // The text to standard output, and the line that belongs to it.
-fn print(text: &[u8], outcome: Outcome) {
-    match outcome {
-        Outcome::Listed => output::print(text, b"listing: listed\n"),
-        Outcome::Empty => output::print(
+fn print(text: &[u8], ending: Ending) {
+    match ending {
+        Ending::Listed => output::print(text, b"listing: listed\n"),
+        Ending::Empty => output::print(
             text,
             b"listing: this journal has no record; a store that has taken a checkpoint has its registers in its base\n",
         ),
-        Outcome::Refused => output::print(text, b"listing: the store refuses this journal\n"),
+        Ending::Refused => output::print(text, b"listing: the store refuses this journal\n"),
     }
 }
 
@@ -74,8 +74,8 @@ fn main() {
             let mut text = [0u8; report::TEXT];
             let told = report_on(&mut journal, survived, &mut text);
             let count = told.count;
-            let outcome = told.outcome;
-            print(&text[..count], outcome);
+            let ending = told.ending;
+            print(&text[..count], ending);
         }
     }
 }

@@ -16,8 +16,8 @@ use Rattle.report.specs.Written.{Written, Reported}
 use Rattle.report.specs.Refused.{isRefused, letter-tells}
 use Rattle.store_file.specs.Layout.{journalAt, isWhole, headOf, baseKeys, baseValues, journalOf}
 use Rattle.store_file.specs.Laws.{WholeAt}
-use Rattle.list_store.specs.declared.Outcome.the-variants.{Listed, Refused, Broken}
-use Rattle.list_store.specs.Text.{noStore, storeText, outcomeOf, Output, ReportedFrom}
+use Rattle.list_store.specs.declared.Ending.the-variants.{Listed, Refused, Broken}
+use Rattle.list_store.specs.Text.{noStore, storeText, endingOf, Output, ReportedFrom}
 
 -- the report of the part of a file from a byte on, with the part back in its place
 pub reported-from : (h : Head) (keys values file : List ℕ) (start : ℕ) {out part out' : List ℕ} {r : ℕ} → start ≤ length file
@@ -55,7 +55,7 @@ module _ (file : List ℕ) where
           within = omega (arith, n, ap length b, length-append noStore (drop (length noStore) out));
         }
 
-    pub none-told : Broken ≡ outcomeOf file
+    pub none-told : Broken ≡ endingOf file
     none-told = rw w
 
   -- a whole store
@@ -92,8 +92,8 @@ module _ (file : List ℕ) where
     letter : isRefused (headOf file) (baseKeys file) (baseValues file) (journalOf file) (length (journalOf file)) ≡ eqb (getD out' 0 0) 114
     letter = sym (letter-tells (headOf file) (baseKeys file) (baseValues file) (journalOf file) (length (journalOf file)) reported)
 
-    pub told-refused : getD out' 0 0 ≡ 114 → Refused ≡ outcomeOf file
+    pub told-refused : getD out' 0 0 ≡ 114 → Refused ≡ endingOf file
     told-refused e = rw (k .whole, letter, eq-eqb (getD out' 0 0) 114 e)
 
-    pub told-listed : (getD out' 0 0 ≡ 114 → ⊥) → Listed ≡ outcomeOf file
+    pub told-listed : (getD out' 0 0 ≡ 114 → ⊥) → Listed ≡ endingOf file
     told-listed n = rw (k .whole, letter, ne-eqb (getD out' 0 0) 114 n)

@@ -8,8 +8,8 @@ use Rattle.journal_store.specs.declared.Head.{Head}
 use Rattle.report.specs.Text.{reportText, reportCells}
 use Rattle.report.specs.Refused.{isRefused}
 use Rattle.store_file.specs.Layout.{journalAt, isWhole, headOf, baseKeys, baseValues, journalOf}
-use Rattle.list_store.specs.declared.Outcome.{Outcome}
-use Rattle.list_store.specs.declared.Outcome.the-variants.{Listed, Refused, Broken}
+use Rattle.list_store.specs.declared.Ending.{Ending}
+use Rattle.list_store.specs.declared.Ending.the-variants.{Listed, Refused, Broken}
 
 -- "no whole store"
 abbrev pub noStore : List ℕ
@@ -28,8 +28,8 @@ storeCells file =
     file
 
 -- no whole store, a refusal of the store, or a listing
-abbrev pub outcomeOf : List ℕ → Outcome
-outcomeOf file =
+abbrev pub endingOf : List ℕ → Ending
+endingOf file =
     cond (isWhole file)
     (cond (isRefused (headOf file) (baseKeys file) (baseValues file) (journalOf file) (length (journalOf file))) Refused Listed)
     Broken

@@ -4,7 +4,7 @@ ghost use mathlib.Core.Path.{_≡_};
 ghost use Prim.Native.Nat.{_≤_};
 ghost use lib.ListN.{length, take};
 ghost use Rattle.report.specs.Text.{textBytes};
-ghost use Rattle.list_store.specs.Text.{ReportedFrom, Output, outcomeOf};
+ghost use Rattle.list_store.specs.Text.{ReportedFrom, Output, endingOf};
 use journal::Base;
 use journal_store::Head;
 use libc::STDIN_FILENO;
@@ -14,7 +14,7 @@ use streams::input::Input;
 use streams::output;
 
 // What the file gave: a listing, a refusal by the store, or no whole store.
-enum Outcome {
+enum Ending {
     Listed,
     Refused,
     Broken,
@@ -23,7 +23,7 @@ enum Outcome {
 // The length of the text, and what it is.
 struct Told {
     count: usize,
-    outcome: Outcome,
+    ending: Ending,
 }
 
 // The report of a head, its base and the journal that stands in a file from a byte on.
@@ -54,7 +54,7 @@ fn report_from(
 fn report_on(file: &mut [u8], text: &mut [u8]) -> Told
     requires { ⌜ textBytes ≤ length (now text) ⌝ }
     ensures { λ r. ⌜ Output (now (file .entry)) (now (text .entry)) (r .count) (now (file .exit)) (now (text .exit)) ⌝ }
-    ensures { λ r. ⌜ r .outcome ≡ outcomeOf (now (file .entry)) ⌝ }
+    ensures { λ r. ⌜ r .ending ≡ endingOf (now (file .entry)) ⌝ }
 {
     let mut keys = [0u32; Base::ROWS];
     let mut values = [0u32; Base::ROWS];
@@ -64,7 +64,7 @@ fn report_on(file: &mut [u8], text: &mut [u8]) -> Told
             let line = report::put(text, 0, b"no whole store\n");
             Told {
                 count: line,
-                outcome: Outcome::Broken,
+                ending: Ending::Broken,
             }
         }
         Opened::Whole(head, start) => {
@@ -72,27 +72,27 @@ fn report_on(file: &mut [u8], text: &mut [u8]) -> Told
             if text[0] == b'r' {
                 return Told {
                     count,
-                    outcome: Outcome::Refused,
+                    ending: Ending::Refused,
                 };
             }
             Told {
                 count,
-                outcome: Outcome::Listed,
+                ending: Ending::Listed,
             }
         }
     }
 }
 
 // The text to standard output, and the line that belongs to it.
-fn print(text: &[u8], outcome: Outcome) {
-    match outcome {
-        Outcome::Listed => output::print(text, b"listing: listed\n"),
-        Outcome::Refused => output::print(text, b"listing: the store refuses this file\n"),
-        Outcome::Broken => output::print(text, b"listing: this file is no whole store\n"),
+fn print(text: &[u8], ending: Ending) {
+    match ending {
+        Ending::Listed => output::print(text, b"listing: listed\n"),
+        Ending::Refused => output::print(text, b"listing: the store refuses this file\n"),
+        Ending::Broken => output::print(text, b"listing: this file is no whole store\n"),
     }
 }
 
-// It tries to read one byte more than a whole store has at the most, so that a longer input is refused.
+// It tries to read one byte more than recovery takes, so that a longer input is refused.
 fn main() {
     let mut buffer = [0u8; Opened::BYTES + 1];
     let input = input::read_all(STDIN_FILENO, &mut buffer);
@@ -102,8 +102,8 @@ fn main() {
             let mut text = [0u8; report::TEXT];
             let told = report_on(&mut buffer[..bytes], &mut text);
             let count = told.count;
-            let outcome = told.outcome;
-            print(&text[..count], outcome);
+            let ending = told.ending;
+            print(&text[..count], ending);
         }
     }
 }

@@ -23,14 +23,14 @@ use Rattle.map_store.specs.Laws.{number-bad, number-good, replied, changed}
 use Rattle.map_store.specs.Tests.{say, list-timely}
 
 -- a list in front of what stood in two columns, if it was accepted
-pub record Written (rows : List Row) (oks ovs : List ℕ) (accepted : Bool) (oks' ovs' : List ℕ) : Type 0 where
+pub record FilledIf (rows : List Row) (oks ovs : List ℕ) (accepted : Bool) (oks' ovs' : List ℕ) : Type 0 where
   pub keys : oks' ≡ cond accepted (rowKeys rows ++ drop (length rows) oks) oks
   pub values : ovs' ≡ cond accepted (rowValues rows ++ drop (length rows) ovs) ovs
 
 -- list, where the shape and the time are good: the rows are counted, and written where there is room for them
 pub record ListedIn (rows : List Row) (oks ovs : List ℕ) (a : Reply) (oks' ovs' : List ℕ) : Type 0 where
   pub reply : a ≡ told (withRoom 0 (length rows) (length oks)) (Present (length rows))
-  pub written : Written rows oks ovs (eqb (a .number) 0) oks' ovs'
+  pub written : FilledIf rows oks ovs (eqb (a .number) 0) oks' ovs'
 
 module _ (t : ℕ) (h : MapHead) (cs : Columns) (oks ovs : List ℕ) where
   -- columns of a list that are not paired, or a store of bad shape
@@ -52,7 +52,7 @@ module _ (t : ℕ) (h : MapHead) (cs : Columns) (oks ovs : List ℕ) where
     module _ (shaped : isShaped h (lengths cs) ≡ true) (a : Reply)
         (d : a ≡ told (listAnswer (length oks) t (meaning h cs)) (Present (length (listAt (versionsOf (h .used) cs) t))))
         (accepted : Bool) (y : accepted ≡ eqb (a .number) 0) where
-      pub listed : (oks' ovs' : List ℕ) → Written (listAt (versionsOf (h .used) cs) t) oks ovs accepted oks' ovs'
+      pub listed : (oks' ovs' : List ℕ) → FilledIf (listAt (versionsOf (h .used) cs) t) oks ovs accepted oks' ovs'
           → ListedAt t h cs oks ovs a oks' ovs'
       listed oks' ovs' p =
           let q : listNumber t h cs oks ovs ≡ listAnswer (length oks) t (meaning h cs) =

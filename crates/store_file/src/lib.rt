@@ -21,7 +21,7 @@ pub enum Opened {
 }
 
 impl Opened {
-    // The most bytes of a whole store.
+    // The most bytes of a file that recovery takes.
     pub const BYTES: usize = HEAD_BYTES + Base::ROWS * ROW_BYTES + SUM_BYTES + JOURNAL_BYTES;
 }
 

@@ -40,7 +40,7 @@ loop-again c =
     let test = opens whole (r .result) rs in (
       omega arith,
       ⊎-elim (λ w. rw (w .1) (simp length-set (l .inv .1))) (λ w. rw (w .1) (l .inv .1)) (n .if1 .came),
-      turn top (λ (x : Record) (m : ℕ). max m (x .transaction + 1)) (λ x rs. refl) j (l .i) _ _ _ (c .above .ensures) (r .ensures) (l .inv .2),
+      turn top (λ (x : Record) (m : ℕ). max m (x .transaction + 1)) (λ x rs. refl) j (l .i) _ _ _ (c .at-least-after .ensures) (r .ensures) (l .inv .2),
       onward (λ ys. Gathered (runningIn whole ys) (l .i + 1) (n .if1 .count) (now (a .numbers)) (n .if1 .numbers)) j (l .i) _ (r .ensures)
           (⊎-elim
           (λ w.

@@ -11,8 +11,8 @@ use Rattle.journal_store.specs.declared.Head.{Head}
 use Rattle.journal_store.specs.Shape.{emptyHead}
 use Rattle.report.specs.Written.{Reported}
 use Rattle.report.specs.Refused.{isRefused, letter-tells}
-use Rattle.list.specs.declared.Outcome.{Outcome}
-use Rattle.list.specs.declared.Outcome.the-variants.{Listed, Empty, Refused}
+use Rattle.list.specs.declared.Ending.{Ending}
+use Rattle.list.specs.declared.Ending.the-variants.{Listed, Empty, Refused}
 
 -- a column of the base, of which no row is used
 abbrev pub none : List ℕ
@@ -23,8 +23,8 @@ abbrev pub Output : List ℕ → ℕ → List ℕ → ℕ → List ℕ → List 
 Output j survived out r j' out' = Reported emptyHead none none j survived out r j' out'
 
 -- a refusal, or a listing, of no record where fewer bytes survived than a record has
-abbrev pub outcomeOf : List ℕ → ℕ → Outcome
-outcomeOf j survived = cond (isRefused emptyHead none none j survived) Refused (cond (ltb survived recordBytes) Empty Listed)
+abbrev pub endingOf : List ℕ → ℕ → Ending
+endingOf j survived = cond (isRefused emptyHead none none j survived) Refused (cond (ltb survived recordBytes) Empty Listed)
 
 -- the head of an empty store by another name
 pub printed : {h : Head} {j out j' out' : List ℕ} {survived r : ℕ} → h ≡ emptyHead → Reported h none none j survived out r j' out'
@@ -32,15 +32,15 @@ pub printed : {h : Head} {j out j' out' : List ℕ} {survived r : ℕ} → h ≡
 printed e p = rw e at p
 
 module _ {j out j' out' : List ℕ} {survived r : ℕ} (p : Output j survived out r j' out') where
-  pub told-refused : getD out' 0 0 ≡ 114 → Refused ≡ outcomeOf j survived
+  pub told-refused : getD out' 0 0 ≡ 114 → Refused ≡ endingOf j survived
   told-refused e = rw (sym (letter-tells emptyHead none none j survived p) ∙ eq-eqb (getD out' 0 0) 114 e)
 
   module _ (n : getD out' 0 0 ≡ 114 → ⊥) where
     accepted : isRefused emptyHead none none j survived ≡ false
     accepted = sym (letter-tells emptyHead none none j survived p) ∙ ne-eqb (getD out' 0 0) 114 n
 
-    pub told-empty : survived < recordBytes → Empty ≡ outcomeOf j survived
+    pub told-empty : survived < recordBytes → Empty ≡ endingOf j survived
     told-empty h = rw (accepted, lt-ltb survived recordBytes h)
 
-    pub told-listed : recordBytes ≤ survived → Listed ≡ outcomeOf j survived
+    pub told-listed : recordBytes ≤ survived → Listed ≡ endingOf j survived
     told-listed h = rw (accepted, le-ltb survived recordBytes h)
