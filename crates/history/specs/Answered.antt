@@ -6,10 +6,10 @@ use mathlib.Core.List.{List, [], _∷_}
 use Prim.Native.Nat.{ℕ, _≤_}
 use native.Mathlib.Omega.{arith}
 use lib.ListN.{length, drop}
-use Rattle.rules.specs.Transactions.{of, runs, snapshot, running}
+use Rattle.rules.specs.Transactions.{of, runs, snapshot}
 use Rattle.rules.specs.Lists.{among}
 use Rattle.rules.specs.Recovery.{survivors}
-use Rattle.rules.specs.Calls.{lastOf, nextOf, valueOf, listOf, readOf, Abort}
+use Rattle.rules.specs.Calls.{lastOf, nextOf, runningOf, runsIn, valueOf, listOf, readOf, Abort}
 use Rattle.rules.specs.Bools.{split}
 use Rattle.rules.specs.Listing.{list-lists, lists-unique}
 use Rattle.history.specs.History.{Runner, Deed, Did, numbers, history, aborting, restarted, valueIn, reads, listIn}
@@ -35,7 +35,7 @@ module _ (y : Course) (h : Tied y) where
   pub next-same : nextOf (y .store) ≡ history (y .deeds) .next
   next-same = next-above y h ∙ now y h .aboves ∙ sym (tells (h .lawful) .nexts)
 
-  pub running-same : running (y .store .records) ≡ numbers (history (y .deeds) .runners)
+  pub running-same : runningOf (y .store) ≡ numbers (history (y .deeds) .runners)
   running-same = now y h .runnings ∙ sym (tells (h .lawful) .runs-alike)
 
   pub value-same : (t k : ℕ) → 1 ≤ k → y .store .low ≤ t → valueOf k t (y .store) ≡ valueIn (history (y .deeds) .commitments) t k
@@ -50,7 +50,7 @@ module _ (y : Course) (h : Tied y) where
       (record { values = λ k i. p .values k i ∙ value-same t k i l; rises = p .rises })
       (history-lists cs t)
 
-  pub read-same : (n k : ℕ) → runs n (y .store .records) ≡ true → 1 ≤ k → readOf n k (y .store) ≡ reads (history (y .deeds)) n k
+  pub read-same : (n k : ℕ) → runsIn n (y .store) ≡ true → 1 ≤ k → readOf n k (y .store) ≡ reads (history (y .deeds)) n k
   read-same n k u i =
       let b = whole (y .deeds) .records in
       let v : runs n b ≡ true = sym (now y h .run n) ∙ u in

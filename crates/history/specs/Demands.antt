@@ -12,10 +12,9 @@ use borrow.Author.Tests.{not-false, eqb-true, eqb-false, eq-eqb, le-leb, le-ltb,
 use Rattle.rules.specs.declared.Value.the-variants.{Absent, Present}
 use Rattle.rules.specs.Bools.{split}
 use Rattle.rules.specs.Passed.{passed, fitting}
-use Rattle.rules.specs.Transactions.{runs, running}
 use Rattle.rules.specs.Listing.{Lists}
 use Rattle.rules.specs.Running.{running-runs}
-use Rattle.rules.specs.Calls.{Store, lastOf, valueOf, listOf, readOf, Call, Begin, Update, Abort, Commit, gives, readRefusal, lookupRefusal, listRefusal, checkpointRefusal, need, withRoom, answer, listAnswer, checkpointAnswer}
+use Rattle.rules.specs.Calls.{Store, lastOf, runningOf, runsIn, valueOf, listOf, readOf, Call, Begin, Update, Abort, Commit, gives, readRefusal, lookupRefusal, listRefusal, checkpointRefusal, need, withRoom, answer, listAnswer, checkpointAnswer}
 use Rattle.record.specs.Laws.{length-records}
 use Rattle.answer.specs.Reply.{Reply, accepted, told}
 use Rattle.journal_store.specs.declared.Head.{Head}
@@ -74,7 +73,7 @@ module _ {room : ℕ → Type 0} {ds : List Deed} {since : ℕ} {x : Cells} (r :
   not-old : (t : ℕ) → listRefusal t (meaningOf x) ≡ 0 → x .head .low ≤ t
   not-old t e = ltb-false t (x .head .low) (passed (ltb t (x .head .low)) 4 _ (omega arith) e .0)
 
-  pub running-is : running (meaningOf x .records) ≡ numbers (history ds .runners)
+  pub running-is : runningOf (meaningOf x) ≡ numbers (history ds .runners)
   running-is = running-same (courseOf ds since x) (tie r)
 
   pub refused-is : (d : Deed) → refused d (meaningOf x) ≡ refusalIn d (history ds)
@@ -159,10 +158,10 @@ module _ {room : ℕ → Type 0} {ds : List Deed} {since : ℕ} {x : Cells} (r :
         ∙ ap (readDecided n k) (lent-meaning r keys values journal l)
         ∙ told-same (readRefusal n k (meaningOf x)) (readNumber n k (history ds)) (readOf n k (meaningOf x)) (reads (history ds) n k) e
         (λ z.
-        let y = passed (not (runs n (meaningOf x .records))) 2 (cond (eqb k 0) 3 0) (omega arith) z in
+        let y = passed (not (runsIn n (meaningOf x))) 2 (cond (eqb k 0) 3 0) (omega arith) z in
         let v = passed (eqb k 0) 3 0 (omega arith) (y .1) in
         let i = eqb-false k 0 (v .0) in
-        read-same (courseOf ds since x) (tie r) n k (not-false (runs n (meaningOf x .records)) (y .0)) (omega arith))
+        read-same (courseOf ds since x) (tie r) n k (not-false (runsIn n (meaningOf x)) (y .0)) (omega arith))
 
     -- CALLS. Begin, update, abort and commit get the number of section 6 that the history gives, and an accepted begin the next number.
     pub number-is : (c : Call) → number c (x .head) keys values journal ≡ numberIn (x .head .journal .used) (roomOf (length journal)) c (history ds)

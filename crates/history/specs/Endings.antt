@@ -10,11 +10,10 @@ use lib.Dec.{eqb, leb}
 use lib.ListN.{length}
 use borrow.Author.Tests.{eqb-true, le-leb}
 use Rattle.rules.specs.Bools.{split}
-use Rattle.rules.specs.Transactions.{runs}
 use Rattle.rules.specs.Lists.{among}
 use Rattle.rules.specs.Running.{running-runs}
 use Rattle.rules.specs.RoomLaws.{fewer}
-use Rattle.rules.specs.Calls.{Store, lastOf, conflictIn, Call, Abort, Commit, refusal, answer}
+use Rattle.rules.specs.Calls.{Store, lastOf, runsIn, conflictIn, Call, Abort, Commit, refusal, answer}
 use Rattle.rules.specs.declared.Value.the-variants.{Absent}
 use Rattle.answer.specs.Reply.{Reply, accepted, told}
 use Rattle.journal_store.specs.declared.Head.{Head}
@@ -29,7 +28,7 @@ use Rattle.history.specs.Demands.{running-is}
 -- none of a commit's other tests gives 12
 commit-not-12 : (n t : ℕ) (s : Store) → refusal (Commit n t) s ≢ 12
 commit-not-12 n t s e =
-    split (runs n (s .records))
+    split (runsIn n s)
     (λ u. split (leb t (lastOf s))
     (λ v. let z : _≡_ {A = ℕ} 10 12 = rw (u, v) at e in absurd (omega arith))
     (λ v. split (conflictIn n s)
@@ -46,13 +45,13 @@ module _ (bytes : ℕ) {ds : List Deed} {since : ℕ} {x : Cells} (r : Reached (
       (ap (answer (roomOf (length journal)) c) (lent-meaning r keys values journal l) ∙ ap (λ (i : ℕ). answer (roomOf i) c (meaningOf x)) same)
 
   -- a running transaction has a free record
-  one-free : (n : ℕ) → runs n (meaningOf x .records) ≡ true → length (meaningOf x .records) + 1 ≤ roomOf bytes
+  one-free : (n : ℕ) → runsIn n (meaningOf x) ≡ true → length (meaningOf x .records) + 1 ≤ roomOf bytes
   one-free n u = omega (arith, meant r .steady bytes (λ i e. e), fewer n (meaningOf x .records) u)
 
-  aborts : (n : ℕ) → runs n (meaningOf x .records) ≡ true → answer (roomOf bytes) (Abort n) (meaningOf x) ≡ 0
+  aborts : (n : ℕ) → runsIn n (meaningOf x) ≡ true → answer (roomOf bytes) (Abort n) (meaningOf x) ≡ 0
   aborts n u = rw (u, le-leb (length (meaningOf x .records) + 1) (roomOf bytes) (one-free n u))
 
-  commits : (n t : ℕ) → runs n (meaningOf x .records) ≡ true → answer (roomOf bytes) (Commit n t) (meaningOf x) ≡ refusal (Commit n t) (meaningOf x)
+  commits : (n t : ℕ) → runsIn n (meaningOf x) ≡ true → answer (roomOf bytes) (Commit n t) (meaningOf x) ≡ refusal (Commit n t) (meaningOf x)
   commits n t u =
       let number-is : ℕ = refusal (Commit n t) (meaningOf x) in
       split (eqb number-is 0)
@@ -70,7 +69,7 @@ module _ (bytes : ℕ) {ds : List Deed} {since : ℕ} {x : Cells} (r : Reached (
   pub abort-never-12 : (n : ℕ) (a : Reply) (head : Head) (journal' : List ℕ) → Wrote (Abort n) (x .head) keys values journal a head journal' → a .number ≢ 12
   abort-never-12 n a head journal' w e =
       let f : answer (roomOf bytes) (Abort n) (meaningOf x) ≡ 12 = sym (meant-number (Abort n)) ∙ sym (ap (λ (q : Reply). q .number) (w .reply)) ∙ e in
-      split (runs n (meaningOf x .records))
+      split (runsIn n (meaningOf x))
       (λ u. let z : _≡_ {A = ℕ} 0 12 = sym (aborts n u) ∙ f in absurd (omega arith))
       (λ u. let z : _≡_ {A = ℕ} 2 12 = rw u at f in absurd (omega arith))
 
@@ -78,6 +77,6 @@ module _ (bytes : ℕ) {ds : List Deed} {since : ℕ} {x : Cells} (r : Reached (
       → a .number ≢ 12
   commit-never-12 n t a head journal' w e =
       let f : answer (roomOf bytes) (Commit n t) (meaningOf x) ≡ 12 = sym (meant-number (Commit n t)) ∙ sym (ap (λ (q : Reply). q .number) (w .reply)) ∙ e in
-      split (runs n (meaningOf x .records))
+      split (runsIn n (meaningOf x))
       (λ u. commit-not-12 n t (meaningOf x) (sym (commits n t u) ∙ f))
       (λ u. let z : _≡_ {A = ℕ} 2 12 = rw u at f in absurd (omega arith))

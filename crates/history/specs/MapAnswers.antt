@@ -9,12 +9,11 @@ use borrow.Author.Tests.{eqb-true}
 use Rattle.rules.specs.declared.Record.{Record}
 use Rattle.rules.specs.declared.Effect.{Effect}
 use Rattle.rules.specs.Kinds.{isUpdate}
-use Rattle.rules.specs.Transactions.{any, of, runs, snapshot, wrote, keysWritten, mayWrite}
+use Rattle.rules.specs.Transactions.{any, of, wrote, keysWritten}
 use Rattle.rules.specs.Values.{readIn}
 use Rattle.rules.specs.Lists.{among}
 use Rattle.rules.specs.Conflicts.{touched}
-use Rattle.rules.specs.Checkpoints.{held}
-use Rattle.rules.specs.Calls.{Store, nextOf, conflictIn, updated, Begin, Update, Abort, Commit, refusal}
+use Rattle.rules.specs.Calls.{Store, nextOf, runsIn, snapshotIn, heldIn, mayWriteIn, conflictIn, updated, Begin, Update, Abort, Commit, refusal}
 use Rattle.rules.specs.Bools.{split, or-right, not-both}
 use Rattle.slot.specs.RowLaws.{length-keys}
 use Rattle.rules.specs.Running.{wrote-among}
@@ -69,10 +68,10 @@ module _ (m : MapStore) (h : Store) (a : Agree m (h .low) (h .records)) (g : San
   next-same = rw (one, a .nexts) (let z = g .capped in omega arith)
 
   -- the map's conflict is rule 3.6's
-  clash-same : (n s : ℕ) (rows : List Note) → runs n (h .records) ≡ true → s ≡ snapshot n (h .records)
+  clash-same : (n s : ℕ) (rows : List Note) → runsIn n h ≡ true → s ≡ snapshotIn n h
       → noteKeys rows ≡ keysWritten (of n (h .records)) → clash s rows (m .versions) ≡ conflictIn n h
   clash-same n s rows u v keys =
-      let z = snapshot n (h .records) in
+      let z = snapshotIn n h in
       rw v
       (clash-keys z rows (m .versions) (λ k. touched (h .records) z (wrote k) (h .records)) (λ k. a .touches z k (g .from n u))
       ∙ ap (anyOf (λ k. touched (h .records) z (wrote k) (h .records))) keys
@@ -80,26 +79,26 @@ module _ (m : MapStore) (h : Store) (a : Agree m (h .low) (h .records)) (g : San
       ∙ sym (conflict-wrote n z (h .records)))
 
   -- a snapshot, by its place
-  snap-told : (T n : ℕ) (p : Place) → Says (h .records) n p → runs n (h .records) ≡ true
-      → ((s : ℕ) (rows : List Note) → p ≡ taken n s rows → T ≤ s) → T ≤ snapshot n (h .records)
-  snap-told T n p (idle u) r f = not-both (runs n (h .records)) r u
+  snap-told : (T n : ℕ) (p : Place) → Says (h .records) n p → runsIn n h ≡ true
+      → ((s : ℕ) (rows : List Note) → p ≡ taken n s rows → T ≤ s) → T ≤ snapshotIn n h
+  snap-told T n p (idle u) r f = not-both (runsIn n h) r u
   snap-told T n p (busy s rows u v keys w) r f = rw (← v) (f s rows refl)
 
   -- a place, by its snapshot
   place-told : (T n : ℕ) (p : Place) → Says (h .records) n p → (s : ℕ) (rows : List Note) → p ≡ taken n s rows
-      → (runs n (h .records) ≡ true → T ≤ snapshot n (h .records)) → T ≤ s
+      → (runsIn n h ≡ true → T ≤ snapshotIn n h) → T ≤ s
   place-told T n p (idle u) s rows e f = let z : _≡_ {A = ℕ} 0 1 = cc in absurd (omega arith)
   place-told T n p (busy s2 rows2 u v keys w) s rows e f = let z : s2 ≡ s = cc in let y = f u in omega (arith, v, z, y)
 
   -- a place holds T exactly if a running snapshot does
-  holds-same : (T : ℕ) → holds T (m .places) ≡ held T (h .records)
+  holds-same : (T : ℕ) → holds T (m .places) ≡ heldIn T h
   holds-same T =
-      split (held T (h .records))
+      split (heldIn T h)
       (λ x.
       split (holds T (m .places))
       (λ y. y ∙ sym x)
       (λ y.
-      not-both (held T (h .records)) x
+      not-both (heldIn T h) x
       (hold-none T (h .records) (h .records)
       (λ n u. snap-told T n (placeOf n (m .places)) (a .says n) u (λ s rows e. holds-none T n (m .places) n s rows y e)))))
       (λ x.
@@ -113,7 +112,7 @@ module _ (m : MapStore) (h : Store) (a : Agree m (h .low) (h .records)) (g : San
   update-same n k e p (idle u) = rw u
   update-same n k e p (busy s rows u v keys w) =
       rw (u, has-among k rows, ← length-keys rows, keys, wrote-among k (of n (h .records)))
-      (split (mayWrite n k (h .records)) (λ x. rw x) (λ x. rw x))
+      (split (mayWriteIn n k h) (λ x. rw x) (λ x. rw x))
 
   -- an abort's refusal
   abort-same : (n : ℕ) (p : Place) → Says (h .records) n p → abortRefusal p ≡ refusal (Abort n) h
@@ -172,11 +171,11 @@ agree start =
 agree (went {d = d} {ds = ds} l e) = agree-deed (mapped ds) (whole ds) (agree l) (sane (whole ds) (sound l)) (sound l .one) (lawful-allowed l {d = d} e)
 
 -- a read in the map is a read in the whole journal
-pub map-read : {ds : List Deed} → Lawful ds → (n k : ℕ) → runs n (whole ds .records) ≡ true → 1 ≤ k
-    → map.readIn n k (mapped ds) ≡ readIn [] (whole ds .records) n (snapshot n (whole ds .records)) k
+pub map-read : {ds : List Deed} → Lawful ds → (n k : ℕ) → runsIn n (whole ds) ≡ true → 1 ≤ k
+    → map.readIn n k (mapped ds) ≡ readIn [] (whole ds .records) n (snapshotIn n (whole ds)) k
 map-read {ds} l n k u i = go (placeOf n (mapped ds .places)) (agree l .says n)
   where
-    go : (p : Place) → Says (whole ds .records) n p → readAt k p (mapped ds .versions) ≡ readIn [] (whole ds .records) n (snapshot n (whole ds .records)) k
-    go p (idle x) = not-both (runs n (whole ds .records)) u x
+    go : (p : Place) → Says (whole ds .records) n p → readAt k p (mapped ds .versions) ≡ readIn [] (whole ds .records) n (snapshotIn n (whole ds)) k
+    go p (idle x) = not-both (runsIn n (whole ds)) u x
     go p (busy s rows x v keys w) =
         current-is (mapped ds) (whole ds .low) (whole ds .records) (agree l) (sane (whole ds) (sound l)) n k s rows i x v keys (w k i)

@@ -10,10 +10,10 @@ use lib.Dec.{ltb}
 use Rattle.rules.specs.declared.Value.the-variants.{Present}
 use Rattle.rules.specs.Passed.{passed}
 use Rattle.rules.specs.Bools.{not-both}
-use Rattle.rules.specs.Transactions.{of, runs, keysWritten}
+use Rattle.rules.specs.Transactions.{of, keysWritten}
 use Rattle.rules.specs.Lists.{among}
 use Rattle.slot.specs.RowLaws.{length-keys}
-use Rattle.rules.specs.Calls.{Call, Begin, Update, Abort, Commit}
+use Rattle.rules.specs.Calls.{runsIn, Call, Begin, Update, Abort, Commit}
 use Rattle.rules.specs.Listing.{lists-unique}
 use Rattle.slot.specs.Places.{Place, placeOf}
 use Rattle.map_store.specs.Meaning.{rowsAt}
@@ -76,7 +76,7 @@ module _ {ds : List Deed} (ok : Lawful ds) where
       (history-lists cs t)
 
   -- what runs in the history runs in the whole journal
-  runs-whole : (n : ℕ) → among n (numbers (history ds .runners)) ≡ true → runs n (whole ds .records) ≡ true
+  runs-whole : (n : ℕ) → among n (numbers (history ds .runners)) ≡ true → runsIn n (whole ds) ≡ true
   runs-whole n e = sym (runner (history ds) (whole ds) (sound ok) (tells ok) n) ∙ e
 
   -- A read in a running transaction gives the history's value at its snapshot, then its own changes.
@@ -92,7 +92,7 @@ module _ {ds : List Deed} (ok : Lawful ds) where
       ∙ ap length (keys-told (of n (whole ds .records)))
       ∙ rw (tells ok .own n u)
     where
-      go : runs n (whole ds .records) ≡ true → (p : Place) → Says (whole ds .records) n p → length (rowsAt p) ≡ length (keysWritten (of n (whole ds .records)))
-      go u p (idle x) = not-both (runs n (whole ds .records)) u x
+      go : runsIn n (whole ds) ≡ true → (p : Place) → Says (whole ds .records) n p → length (rowsAt p) ≡ length (keysWritten (of n (whole ds .records)))
+      go u p (idle x) = not-both (runsIn n (whole ds)) u x
       go u p (busy s rows x v keys w) =
           rw (firsts-written rows (of n (whole ds .records)) keys) (sym (length-keys rows) ∙ ap length keys)

@@ -19,7 +19,7 @@ use Rattle.rules.specs.Lists.{rowKeys}
 use Rattle.rules.specs.Columns.{rowValues}
 use Rattle.rules.specs.Checkpoints.{kept}
 use Rattle.rules.specs.Recovery.{survivors}
-use Rattle.rules.specs.Calls.{Store, nextOf, Call, recordOf, refusal, checkpointRefusal, need, answer, checkpointAnswer, listOf}
+use Rattle.rules.specs.Calls.{Store, nextOf, listOf, Call, recordOf, refusal, checkpointRefusal, need, answer, checkpointAnswer}
 use Rattle.rules.specs.Passed.{fitting}
 use Rattle.rules.specs.RoomLaws.{Roomy, room-for-each}
 use Rattle.record.specs.Bytes.{Bytes, recordsIn, appended}

@@ -13,7 +13,7 @@ use Rattle.rules.specs.Lists.{among}
 use Rattle.rules.specs.Conflicts.{metOn, touched, clashes}
 use Rattle.rules.specs.Meeting.{ReadsUpdates, test-skip, met-reads}
 use Rattle.rules.specs.Checkpoints.{held}
-use Rattle.rules.specs.Calls.{Store, lastOf, Begin, Update, Abort, Commit}
+use Rattle.rules.specs.Calls.{Store, lastOf, runsIn, snapshotIn, heldIn, Begin, Update, Abort, Commit}
 use Rattle.rules.specs.Bools.{split, or-right, or-none, or-none-left, or-none-right, not-both}
 use Rattle.rules.specs.Running.{touched-open}
 use Rattle.history.specs.History.{Change, Runner, History, Deed, Did, Checkpointed, numbers, snapshotOf, changes}
@@ -84,7 +84,7 @@ length-numbers [] = refl
 length-numbers (r ∷ rs) = rw (length-numbers rs)
 
 module _ (h : History) (s : Store) (w : Sound s) (t : Tells h s) where
-  held-told : (T : ℕ) → held T (s .records) ≡ holdsBack T (h .runners)
+  held-told : (T : ℕ) → heldIn T s ≡ holdsBack T (h .runners)
   held-told T =
       let b : List Record = s .records in
       let p : ℕ → Bool = λ n. ltb (snapshotOf n (h .runners)) T in
@@ -113,12 +113,12 @@ module _ (h : History) (s : Store) (w : Sound s) (t : Tells h s) where
   refused-told (Did (Begin u)) =
       rw (last-same, ← t .lows, sound-next s w, ← t .nexts, ← t .runs-alike, length-numbers (h .runners))
   refused-told (Did (Update n k e)) =
-      split (runs n (s .records))
+      split (runsIn n s)
       (λ u. rw (runner h s w t n, u, t .own n u, wrote-told k (of n (s .records)), keys-told (of n (s .records))))
       (λ u. rw (runner h s w t n, u))
   refused-told (Did (Abort n)) = rw (runner h s w t n)
   refused-told (Did (Commit n u)) =
-      split (runs n (s .records))
+      split (runsIn n s)
       (λ x.
       rw (
         runner h s w t n,
@@ -127,7 +127,7 @@ module _ (h : History) (s : Store) (w : Sound s) (t : Tells h s) where
         t .own n x,
         t .snaps n x,
         t .commits,
-        conflict-told (snapshot n (s .records)) (w .good) (of n (s .records)) (of n (s .records)),
+        conflict-told (snapshotIn n s) (w .good) (of n (s .records)) (of n (s .records)),
       ))
       (λ x. rw (runner h s w t n, x))
   refused-told (Checkpointed u) = rw (last-same, ← t .lows, held-told u)

@@ -8,9 +8,9 @@ use lib.Dec.{eqb}
 use borrow.Author.Tests.{eqb-true}
 use Rattle.rules.specs.declared.Record.{Record}
 use Rattle.rules.specs.Kinds.{isBegin}
-use Rattle.rules.specs.Transactions.{of, runs, snapshot}
+use Rattle.rules.specs.Transactions.{of}
 use Rattle.rules.specs.Times.{last, above}
-use Rattle.rules.specs.Calls.{Store, lastOf, nextOf, recordOf, push}
+use Rattle.rules.specs.Calls.{Store, lastOf, nextOf, runsIn, snapshotIn, recordOf, push}
 use Rattle.rules.specs.Bools.{split}
 use Rattle.history.specs.History.{Deed, Did, Checkpointed}
 use Rattle.history.specs.Good.{Step, Good, more}
@@ -25,7 +25,7 @@ use Rattle.history.specs.Written.{call-step}
 pub record Sound (h : Store) : Type 0 where
   pub good : Good 0 (h .records)
   pub within : h .low ≤ last 0 (h .records)
-  pub from : (n : ℕ) → runs n (h .records) ≡ true → h .low ≤ snapshot n (h .records)
+  pub from : (n : ℕ) → runsIn n h ≡ true → h .low ≤ snapshotIn n h
   pub one : h .floor ≡ 1
 
 module _ (h : Store) (w : Sound h) where

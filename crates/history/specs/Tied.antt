@@ -11,13 +11,13 @@ use Rattle.rules.specs.declared.Record.{Record}
 use Rattle.rules.specs.declared.Value.{Value}
 use Rattle.rules.specs.declared.Value.the-variants.{Absent}
 use Rattle.rules.specs.Kinds.{isBegin, isEnd}
-use Rattle.rules.specs.Transactions.{any, of, runs, snapshot}
+use Rattle.rules.specs.Transactions.{any, of, runs}
 use Rattle.rules.specs.Times.{last, above, next}
 use Rattle.rules.specs.Values.{rowValue, value}
 use Rattle.rules.specs.Lists.{among, rising, listAt}
 use Rattle.rules.specs.Checkpoints.{kept}
 use Rattle.rules.specs.Recovery.{done, only}
-use Rattle.rules.specs.Calls.{Store, empty, lastOf, nextOf, valueOf, Call, Begin, Update, Abort, Commit, recordOf, refusal, checkpointRefusal, push, checkpointed}
+use Rattle.rules.specs.Calls.{Store, empty, lastOf, nextOf, runsIn, snapshotIn, valueOf, Call, Begin, Update, Abort, Commit, recordOf, refusal, checkpointRefusal, push, checkpointed}
 use Rattle.rules.specs.Bools.{split, implies-false}
 use Rattle.rules.specs.Running.{not-ended}
 use Rattle.rules.specs.Listing.{list-lists}
@@ -168,7 +168,7 @@ module _ (y : Course) (h : Tied y) where
       rw (last-low (walkLow (y .store)) (y .store .low) (y .store .records) (h .behind)) (omega (arith, h .within, last-since (h .since)))
 
   -- no running snapshot is below low
-  pub from-now : (n : ℕ) → runs n (y .store .records) ≡ true → y .store .low ≤ snapshot n (y .store .records)
+  pub from-now : (n : ℕ) → runsIn n (y .store) ≡ true → y .store .low ≤ snapshotIn n (y .store)
   from-now n u = rw (← low-now, now .own n u) (sound (h .lawful) .from n (sym (now .run n) ∙ u))
 
   -- the store's values are the whole journal's
@@ -187,10 +187,10 @@ module _ (y : Course) (h : Tied y) where
   pub refused-alike : (d : Deed) → refused d (y .store) ≡ refused d (whole (y .deeds))
   refused-alike (Did (Begin t)) = rw (low-now, whole-floor (y .deeds), now .lasts, now .runnings, now .aboves)
   refused-alike (Did (Update n k e)) =
-      split (runs n (y .store .records)) (λ u. rw (← now .run n, u, now .own n u)) (λ u. rw (← now .run n, u))
+      split (runsIn n (y .store)) (λ u. rw (← now .run n, u, now .own n u)) (λ u. rw (← now .run n, u))
   refused-alike (Did (Abort n)) = rw (now .run n)
   refused-alike (Did (Commit n t)) =
-      split (runs n (y .store .records))
+      split (runsIn n (y .store))
       (λ u.
       rw (
         ← now .run n,

@@ -16,7 +16,7 @@ use Rattle.rules.specs.Transactions.{of, runs, snapshot, running}
 use Rattle.rules.specs.Times.{last, above}
 use Rattle.rules.specs.Values.{value}
 use Rattle.rules.specs.Lists.{among}
-use Rattle.rules.specs.Calls.{Store, updated, Begin, push}
+use Rattle.rules.specs.Calls.{Store, runningOf, runsIn, snapshotIn, updated, Begin, push}
 use Rattle.rules.specs.Bools.{split, not-both, and-false}
 use Rattle.rules.specs.Running.{without, running-skip, running-end, runs-skip, running-runs}
 use Rattle.history.specs.History.{Change, Commitment, Runner, History, Deed, Did, numbers, changesOf, snapshotOf, changed, ended, recalled, withDeed, making, valueIn, latest}
@@ -46,9 +46,9 @@ pub record Tells (h : History) (s : Store) : Type 0 where
   pub lows : h .low ≡ s .low
   pub nexts : h .next ≡ above 1 (s .records)
   pub commits : h .commitments ≡ commitmentsIn (s .records)
-  pub runs-alike : numbers (h .runners) ≡ running (s .records)
-  pub own : (n : ℕ) → runs n (s .records) ≡ true → changesOf n (h .runners) ≡ changesIn (of n (s .records))
-  pub snaps : (n : ℕ) → runs n (s .records) ≡ true → snapshotOf n (h .runners) ≡ snapshot n (s .records)
+  pub runs-alike : numbers (h .runners) ≡ runningOf s
+  pub own : (n : ℕ) → runsIn n s ≡ true → changesOf n (h .runners) ≡ changesIn (of n (s .records))
+  pub snaps : (n : ℕ) → runsIn n s ≡ true → snapshotOf n (h .runners) ≡ snapshotIn n s
 
 -- values and last, read in a journal and in its committed transactions
 pub making-effects : (k : ℕ) (own : List Record) (v : Value) → effects k own v ≡ making k (changesIn own) v
@@ -113,7 +113,7 @@ module _ (n : ℕ) where
 
 module _ (h : History) (s : Store) (w : Sound s) (t : Tells h s) where
   -- a transaction runs in the history exactly if it runs in the journal
-  pub runner : (n : ℕ) → among n (numbers (h .runners)) ≡ runs n (s .records)
+  pub runner : (n : ℕ) → among n (numbers (h .runners)) ≡ runsIn n s
   runner n = rw (t .runs-alike) (running-runs n (s .records))
 
   -- begin
@@ -143,7 +143,7 @@ module _ (h : History) (s : Store) (w : Sound s) (t : Tells h s) where
       })
 
   -- update
-  tells-update : (r : Record) → isUpdate r ≡ true → isBegin r ≡ false → isCommit r ≡ false → isEnd r ≡ false → runs (r .transaction) (s .records) ≡ true
+  tells-update : (r : Record) → isUpdate r ≡ true → isBegin r ≡ false → isCommit r ≡ false → isEnd r ≡ false → runsIn (r .transaction) s ≡ true
       → Tells
       (record {
         low = h .low;
@@ -161,7 +161,7 @@ module _ (h : History) (s : Store) (w : Sound s) (t : Tells h s) where
         runs-alike = rw (changed-numbers n (changeOf r) (h .runners), b, running-skip r e (s .records) (s .records)) (t .runs-alike);
         own =
             λ m q.
-            let q2 : runs m (s .records) ≡ true = sym (runs-skip r b e m (s .records)) ∙ q in
+            let q2 : runsIn m s ≡ true = sym (runs-skip r b e m (s .records)) ∙ q in
             split (eqb n m)
             (λ x.
             let y : n ≡ m = eqb-true n m x in
@@ -173,14 +173,14 @@ module _ (h : History) (s : Store) (w : Sound s) (t : Tells h s) where
             (λ x. rw (changed-other n (changeOf r) m x (h .runners), x, t .own m q2));
         snaps =
             λ m q.
-            let q2 : runs m (s .records) ≡ true = sym (runs-skip r b e m (s .records)) ∙ q in
+            let q2 : runsIn m s ≡ true = sym (runs-skip r b e m (s .records)) ∙ q in
             rw (changed-snapshot n (changeOf r) m (h .runners))
             (split (eqb n m) (λ x. rw (x, b, t .snaps m q2)) (λ x. rw (x, t .snaps m q2)));
       }
 
   -- what an end leaves
   module _ (r : Record) (b : isBegin r ≡ false) (e : isEnd r ≡ true) where
-    others : (m : ℕ) → runs m (r ∷ s .records) ≡ true → (runs m (s .records) ≡ true) × (eqb (r .transaction) m ≡ false)
+    others : (m : ℕ) → runs m (r ∷ s .records) ≡ true → (runsIn m s ≡ true) × (eqb (r .transaction) m ≡ false)
     others m q =
         split (eqb (r .transaction) m) (λ x. not-both false (rw (x, b, e, and-false) at q) refl) (λ x. (rw x at q, x))
 

@@ -6,10 +6,10 @@ use mathlib.Core.List.{List, [], _∷_}
 use Prim.Native.Nat.{ℕ}
 use native.Mathlib.Omega.{arith}
 use Rattle.rules.specs.declared.Record.{Record}
-use Rattle.rules.specs.Transactions.{of, runs, snapshot}
+use Rattle.rules.specs.Transactions.{of, snapshot}
 use Rattle.rules.specs.Values.{readIn}
 use Rattle.rules.specs.Lists.{among}
-use Rattle.rules.specs.Calls.{Abort}
+use Rattle.rules.specs.Calls.{runsIn, snapshotIn, Abort}
 use Rattle.rules.specs.Bools.{split}
 use Rattle.history.specs.History.{Deed, Did, numbers, history, aborting, valueIn, reads}
 use Rattle.history.specs.Refusals.{refusalIn}
@@ -60,7 +60,7 @@ pub lawful-allowed : {ds : List Deed} → Lawful ds → {d : Deed} → refusalIn
 lawful-allowed {ds} l {d} e = allowed (whole ds) d (whole-refuses l d ∙ e)
 
 -- a read in the whole journal is a read in the history
-pub read-told : {ds : List Deed} → Lawful ds → (n k : ℕ) → runs n (whole ds .records) ≡ true → readIn [] (whole ds .records) n (snapshot n (whole ds .records)) k ≡ reads (history ds) n k
+pub read-told : {ds : List Deed} → Lawful ds → (n k : ℕ) → runsIn n (whole ds) ≡ true → readIn [] (whole ds .records) n (snapshotIn n (whole ds)) k ≡ reads (history ds) n k
 read-told {ds} l n k u =
     let b : List Record = whole ds .records in
     let t = tells l in
@@ -73,7 +73,7 @@ lawful-aborting [] ds l = l
 lawful-aborting (n ∷ ns) ds l =
     split (among n (numbers (history ds .runners)))
     (λ x.
-    let u : runs n (whole ds .records) ≡ true = sym (runner (history ds) (whole ds) (sound l) (tells l) n) ∙ x in
+    let u : runsIn n (whole ds) ≡ true = sym (runner (history ds) (whole ds) (sound l) (tells l) n) ∙ x in
     rw x (lawful-aborting ns (Did (Abort n) ∷ ds) (went l (rw x))))
     (λ x. rw x (lawful-aborting ns ds l))
 
@@ -84,9 +84,9 @@ whole-aborting (n ∷ ns) ds l =
     let r = runner (history ds) (whole ds) (sound l) (tells l) n in
     split (among n (numbers (history ds .runners)))
     (λ x.
-    let u : runs n (whole ds .records) ≡ true = sym r ∙ x in
+    let u : runsIn n (whole ds) ≡ true = sym r ∙ x in
     rw (x, u, whole-aborting ns (Did (Abort n) ∷ ds) (went l (rw x))))
-    (λ x. let u : runs n (whole ds .records) ≡ false = sym r ∙ x in rw (x, u, whole-aborting ns ds l))
+    (λ x. let u : runsIn n (whole ds) ≡ false = sym r ∙ x in rw (x, u, whole-aborting ns ds l))
 
 -- low stays
 pub low-aborting : (ns : List ℕ) (ds : List Deed) → whole (aborting ns ds) .low ≡ whole ds .low
