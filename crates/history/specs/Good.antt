@@ -3,9 +3,9 @@
 use mathlib.Core.Path.{_≡_, refl}
 use mathlib.Core.Bool.{true, false, false≢true}
 use mathlib.Core.List.{List, [], _∷_}
-use Prim.Native.Nat.{ℕ, _<_, _≤_}
+use Prim.Native.Nat.{ℕ, _-_, _<_, _≤_}
 use lib.ListN.{length}
-use Rattle.rules.specs.Limits.{mostRunning}
+use Rattle.rules.specs.Limits.{mostRunning, numbersEnd}
 use Rattle.rules.specs.declared.Record.{Record}
 use Rattle.rules.specs.Kinds.{isBegin, isUpdate, isCommit, aborted}
 use Rattle.rules.specs.Transactions.{snapshot, runs, running, mayWrite}
@@ -16,7 +16,7 @@ use Rattle.rules.specs.Recovery.{formed}
 -- a begin has a fresh number in range and a snapshot from low to last, and fewer than 8 run
 pub record Opening (low : ℕ) (older : List Record) (r : Record) : Type 0 where
   pub fresh : above 1 older ≤ r .transaction
-  pub ranged : r .transaction ≤ 4294967294
+  pub ranged : r .transaction ≤ numbersEnd - 1
   pub from : low ≤ r .time
   pub upto : r .time ≤ last low older
   pub few : length (running older) < mostRunning

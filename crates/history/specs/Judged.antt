@@ -2,11 +2,11 @@
 use mathlib.Core.Path.{_≡_, refl}
 use mathlib.Core.Bool.{Bool, true, _&&_}
 use mathlib.Core.List.{List, [], _∷_}
-use Prim.Native.Nat.{ℕ}
+use Prim.Native.Nat.{ℕ, _-_}
 use lib.Dec.{leb}
 use lib.ListN.{length}
 use borrow.Author.Tests.{leb-true, ltb-true, le-leb, lt-ltb, not-true}
-use Rattle.rules.specs.Limits.{mostRunning}
+use Rattle.rules.specs.Limits.{mostRunning, numbersEnd}
 use Rattle.rules.specs.declared.Record.{Record}
 use Rattle.rules.specs.Kinds.{isBegin, isUpdate, isCommit}
 use Rattle.rules.specs.Transactions.{snapshot, running}
@@ -26,7 +26,7 @@ module _ (low : ℕ) (older : List Record) (r : Record) where
   step-judge : Step low older r → judge low older r ≡ true
   step-judge s =
       let n : numbered older r ≡ true = split (isBegin r)
-      (λ b. let o = s .opens b in rw (b, le-leb (above 1 older) (r .transaction) (o .fresh), le-leb (r .transaction) 4294967294 (o .ranged)))
+      (λ b. let o = s .opens b in rw (b, le-leb (above 1 older) (r .transaction) (o .fresh), le-leb (r .transaction) (numbersEnd - 1) (o .ranged)))
       (λ b. rw b (s .goes-on b)) in
       let t : timely low older r ≡ true = split (isBegin r)
       (λ b. let o = s .opens b in rw (b, le-leb low (r .time) (o .from), le-leb (r .time) (last low older) (o .upto)))
@@ -48,7 +48,7 @@ module _ (low : ℕ) (older : List Record) (r : Record) where
         form = f .0;
         opens =
             λ b.
-            let n1 = both (leb (above 1 older) (r .transaction)) (leb (r .transaction) 4294967294) (rw b at (n .0)) in
+            let n1 = both (leb (above 1 older) (r .transaction)) (leb (r .transaction) (numbersEnd - 1)) (rw b at (n .0)) in
             let t1 = both (leb low (r .time)) (leb (r .time) (last low older)) (rw b at (t .0)) in
             record {
               fresh = leb-true _ _ (n1 .0);

@@ -2,7 +2,7 @@
 use mathlib.Core.Path.{_≡_, refl, sym, ap, _∙_}
 use mathlib.Core.Bool.{true, false, not}
 use mathlib.Core.List.{List, [], _∷_}
-use Prim.Native.Nat.{ℕ, zero, suc, _+_, _≤_, _<_}
+use Prim.Native.Nat.{ℕ, zero, suc, _+_, _-_, _≤_, _<_}
 use native.Mathlib.Nat.{max-eq-right, le-of-lt}
 use native.Mathlib.Numerals.{add-one}
 use native.Mathlib.Omega.{arith}
@@ -10,7 +10,7 @@ use lib.Dec.{eqb, leb, ltb}
 use lib.ListN.{length, take, getD, set, length-set}
 use lib.Seq.{take-suc, getD-set-same, getD-set-other}
 use borrow.Author.Tests.{eqb-true, eq-eqb, ne-eqb, leb-true, ltb-true, ltb-false}
-use Rattle.rules.specs.Limits.{mostRunning}
+use Rattle.rules.specs.Limits.{mostRunning, numbersEnd}
 use Rattle.rules.specs.declared.Record.{Record}
 use Rattle.rules.specs.Bools.{split, and-left, and-false, or-left, or-right}
 use Rattle.rules.specs.Kinds.{isBegin, isCommit, isEnd}
@@ -131,7 +131,7 @@ module _ (low : ℕ) (rs : List Record) (r : Record) (s : State) (h : Tracks low
     exceeds : above 1 rs ≤ r .transaction
     exceeds =
         leb-true (above 1 rs) (r .transaction)
-        (and-left (leb (above 1 rs) (r .transaction)) (leb (r .transaction) 4294967294) (rw k at (judged low rs r j .numbered)))
+        (and-left (leb (above 1 rs) (r .transaction)) (leb (r .transaction) (numbersEnd - 1)) (rw k at (judged low rs r j .numbered)))
 
     none : of (r .transaction) rs ≡ []
     none = h .fresh (r .transaction) exceeds

@@ -2,10 +2,10 @@
 use mathlib.Core.Path.{_≡_}
 use mathlib.Core.Bool.{Bool, true, cond, _&&_}
 use mathlib.Core.List.{List, [], _∷_}
-use Prim.Native.Nat.{ℕ, zero, suc, _+_, _≤_, _<_}
+use Prim.Native.Nat.{ℕ, zero, suc, _+_, _-_, _≤_, _<_}
 use lib.Dec.{eqb, leb, ltb}
 use lib.ListN.{length, take, getD, set, replicate}
-use Rattle.rules.specs.Limits.{mostRunning}
+use Rattle.rules.specs.Limits.{mostRunning, numbersEnd}
 use Rattle.rules.specs.declared.Record.{Record}
 use Rattle.rules.specs.Kinds.{isBegin, isCommit}
 use Rattle.rules.specs.Lists.{among}
@@ -82,7 +82,7 @@ SnapshotOf s n v = (snap : ℕ → ℕ) → Held snap s → among n (take (s .co
 -- `numbered` by the state
 abbrev pub numberedBy : State → Record → Bool
 numberedBy s r =
-    cond (isBegin r) (leb (s .above) (r .transaction) && leb (r .transaction) 4294967294) (among (r .transaction) (take (s .count) (s .numbers)))
+    cond (isBegin r) (leb (s .above) (r .transaction) && leb (r .transaction) (numbersEnd - 1)) (among (r .transaction) (take (s .count) (s .numbers)))
 
 -- `timely` by the state
 abbrev pub timelyBy : ℕ → State → Record → Bool

@@ -17,7 +17,7 @@ use rules::Record;
 use rules::Walked;
 
 // The highest number that a transaction has.
-const LAST_NUMBER: u32 = 4294967294;
+const LAST_NUMBER: u32 = Journal::NO_NUMBER - 1;
 
 // What the records passed say: last, one more than the highest number begun, and the running transactions with their snapshots, the latest begun at
 // the end.

@@ -1,10 +1,11 @@
 -- `walk::State::numbered` meets its contract: a begin by its number, any other record by the rows. Assumes nothing.
 use mathlib.Core.Path.{_≡_}
 use mathlib.Core.Bool.{Bool, false}
-use Prim.Native.Nat.{_<_, _≤_}
+use Prim.Native.Nat.{_-_, _<_, _≤_}
 use lib.Dec.{leb}
 use lib.ListN.{take}
 use borrow.Author.Tests.{ne-eqb, le-leb, lt-leb}
+use Rattle.rules.specs.Limits.{numbersEnd}
 use Rattle.rules.specs.declared.Record.{Record}
 use Rattle.rules.specs.Lists.{among}
 use Rattle.walk.specs.declared.State.{State}
@@ -17,7 +18,7 @@ module _ (s : State) (r : Record) where
   too-low : r .kind ≡ 1 → r .transaction < s .above → false ≡ numberedBy s r
   too-low k l = rw (k, lt-leb (s .above) (r .transaction) l)
 
-  begins : r .kind ≡ 1 → s .above ≤ r .transaction → leb (r .transaction) 4294967294 ≡ numberedBy s r
+  begins : r .kind ≡ 1 → s .above ≤ r .transaction → leb (r .transaction) (numbersEnd - 1) ≡ numberedBy s r
   begins k l = rw (k, le-leb (s .above) (r .transaction) l)
 
   others : (b : Bool) → (r .kind ≡ 1 → ⊥) → b ≡ among (r .transaction) (take (s .count) (s .numbers)) → b ≡ numberedBy s r
