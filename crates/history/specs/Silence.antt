@@ -163,3 +163,6 @@ lawful-without (went {d = Checkpointed t} {ds = ds} ok e) = lawful-without ok
 -- Without the checkpoints the rules refuse none of the calls that a store accepted with them.
 pub silent-calls : {room : ℕ → Type 0} {ds : List Deed} {since : ℕ} {x : Cells} → Reached room ds since x → Lawful (withoutCheckpoints ds)
 silent-calls r = lawful-without (accepted-is-lawful r)
+
+pub map-silent-calls : {ds : List Deed} {m : MapCells} → MapReached ds m → Lawful (withoutCheckpoints ds)
+map-silent-calls r = lawful-without (map-accepted-is-lawful r)

@@ -1,15 +1,16 @@
 -- The demands, for a reader: each theorem with its whole signature; the proofs are in the files that are named. What has to be believed stands in
 -- History, Refusals and Lawful (what the user's words mean), Cells and MapCells (what a sequence of calls is), withoutCheckpoints (Silence), the contracts
--- that these cite, and what the history shares with the rules: applied, listed, among and withRoom. Assumes nothing.
+-- that these cite, and what the history shares with the rules: applied, listed, among, withRoom and the limits. Assumes nothing.
 use mathlib.Core.Path.{_≡_}
 use mathlib.Core.Bool.{true}
-use mathlib.Core.List.{List, _∷_}
+use mathlib.Core.List.{List, [], _∷_}
 use mathlib.Core.Logic.{_≢_}
 use Prim.Native.Nat.{ℕ, _*_, _≤_}
 use lib.ListN.{length, drop}
 use Rattle.rules.specs.declared.Value.the-variants.{Absent, Present}
 use Rattle.rules.specs.declared.Effect.the-variants.{Assign}
 use Rattle.rules.specs.Kinds.{recordBytes}
+use Rattle.rules.specs.Values.{rowValue}
 use Rattle.rules.specs.Lists.{among}
 use Rattle.rules.specs.Calls.{Call, Update, Abort, Commit, withRoom}
 use Rattle.record.specs.Bytes.{Bytes}
@@ -88,7 +89,12 @@ pub map-reads-the-history : {ds : List Deed} {m : MapCells} → MapReached ds m 
     → readReply n k (m .head) cs ≡ told (readNumber n k (history ds)) (reads (history ds) n k)
 map-reads-the-history = map.map-reads-the-history
 
--- Recovery reads back what the calls wrote: every list at every time, refused ones too, is what it was.
+-- Recovery reads back what the calls wrote: it accepts, and every list at every time, refused ones too, is what it was.
+pub recovery-accepts : {room : ℕ → Type 0} {ds : List Deed} {since : ℕ} {x : Cells} → Reached room ds since x → (keys values journal : List ℕ)
+    → Lent x (end x) keys values journal → Bytes journal → (used : ℕ) (a : Reply) (head : Head) (journal' : List ℕ)
+    → Recovered (counting used (x .head)) keys values journal (end x) a head journal' → a ≡ accepted Absent
+recovery-accepts = restarts.recovery-accepts
+
 pub recovery-reads-back : {room : ℕ → Type 0} {ds : List Deed} {since : ℕ} {x : Cells} → Reached room ds since x → (keys values journal : List ℕ)
     → Lent x (end x) keys values journal → Bytes journal → (used : ℕ) (a : Reply) (head : Head) (journal' : List ℕ)
     → Recovered (counting used (x .head)) keys values journal (end x) a head journal' → (t : ℕ) (listed contents : List ℕ)
@@ -97,6 +103,14 @@ pub recovery-reads-back : {room : ℕ → Type 0} {ds : List Deed} {since : ℕ}
     → ListedBy head keys values journal' t listed contents b' listed₂ contents₂
     → (b ≡ b') × (listed₁ ≡ listed₂) × (contents₁ ≡ contents₂)
 recovery-reads-back = restarts.recovery-reads-back
+
+-- Recovering again, from a cut too and from a head whose used count is old, changes neither head nor cell.
+pub recovering-again : {room : ℕ → Type 0} {ds : List Deed} {since : ℕ} {x : Cells} → Reached room ds since x → (survived : ℕ) → Cut x since survived
+    → (keys values journal : List ℕ) → Lent x survived keys values journal → Bytes journal → (used : ℕ) (a : Reply) (head : Head) (journal' : List ℕ)
+    → Recovered (counting used (x .head)) keys values journal survived a head journal' → (old : ℕ) (b : Reply) (head' : Head) (journal'' : List ℕ)
+    → Recovered (counting old head) keys values journal' (head .journal .used * recordBytes) b head' journal''
+    → (b ≡ accepted Absent) × (head' ≡ head) × (journal'' ≡ journal')
+recovering-again = restarts.recovering-again
 
 -- DEMAND 3. Over any sequence, at every time from low to last, a list with room enough has a count n, and exactly the history's registers in n rows.
 pub every-listing : {room : ℕ → Type 0} {ds : List Deed} {since : ℕ} {x : Cells} → Reached room ds since x → (keys values journal : List ℕ)
@@ -147,6 +161,9 @@ map-checkpoint-is-silent = silence.map-checkpoint-is-silent
 
 pub silent-calls : {room : ℕ → Type 0} {ds : List Deed} {since : ℕ} {x : Cells} → Reached room ds since x → Lawful (withoutCheckpoints ds)
 silent-calls = silence.silent-calls
+
+pub map-silent-calls : {ds : List Deed} {m : MapCells} → MapReached ds m → Lawful (withoutCheckpoints ds)
+map-silent-calls = silence.map-silent-calls
 
 -- The map store, given the same calls, lists the same.
 pub stores-list-alike : {room : ℕ → Type 0} {ds : List Deed} {since : ℕ} {x : Cells} → Reached room ds since x → (keys values journal : List ℕ)
@@ -230,6 +247,11 @@ pub the-cut-lists : {room : ℕ → Type 0} {ds : List Deed} {since : ℕ} {x : 
     listed contents b listed' contents'
 the-cut-lists = restarts.the-cut-lists
 
+pub the-cut-ends : {room : ℕ → Type 0} {ds : List Deed} {since : ℕ} {x : Cells} → Reached room ds since x → (survived : ℕ) → Cut x since survived
+    → (keys values journal : List ℕ) → Lent x survived keys values journal → Bytes journal → (used : ℕ) (a : Reply) (head : Head) (journal' : List ℕ)
+    → Recovered (counting used (x .head)) keys values journal survived a head journal' → history (restarted (lost x survived) ds) .runners ≡ []
+the-cut-ends = restarts.the-cut-ends
+
 -- RULE 3.11. With the same lent room throughout, a running transaction can always be ended by abort, and a commit never gets 12.
 pub ending-is-possible : (bytes : ℕ) {ds : List Deed} {since : ℕ} {x : Cells} → Reached (λ n. n ≡ bytes) ds since x → (keys values journal : List ℕ)
     → Lent x (end x) keys values journal → length journal ≡ bytes → (n : ℕ) → among n (numbers (history ds .runners)) ≡ true
@@ -246,13 +268,29 @@ pub commit-never-12 : (bytes : ℕ) {ds : List Deed} {since : ℕ} {x : Cells} �
     → Wrote (Commit n t) (x .head) keys values journal a head journal' → a .number ≢ 12
 commit-never-12 = endings.commit-never-12
 
--- NO TRIVIAL STORE. A committed assign is looked up.
+-- NO TRIVIAL STORE. A committed assign is looked up, and listed where the list has room.
 pub a-committed-assign-is-looked-up : {room : ℕ → Type 0} {ds : List Deed} {since : ℕ} {x : Cells} (n k v t : ℕ)
     → Reached room (Did (Commit n t) ∷ Did (Update n k (Assign v)) ∷ ds) since x → (keys values journal : List ℕ) → Lent x (end x) keys values journal
     → shapedReply (x .head) keys values journal (lookupDecided k t) ≡ accepted (Present v)
 a-committed-assign-is-looked-up = corollaries.a-committed-assign-is-looked-up
 
+pub a-committed-assign-is-listed : {room : ℕ → Type 0} {ds : List Deed} {since : ℕ} {x : Cells} (n k v t : ℕ)
+    → Reached room (Did (Commit n t) ∷ Did (Update n k (Assign v)) ∷ ds) since x → (keys values journal : List ℕ) → Lent x (end x) keys values journal
+    → (let rows = listIn (history (Did (Commit n t) ∷ Did (Update n k (Assign v)) ∷ ds) .commitments) t in
+    (listed contents : List ℕ) → length listed ≡ length contents → length rows ≤ length listed
+    → (a : Reply) (listed' contents' : List ℕ) → ListedBy (x .head) keys values journal t listed contents a listed' contents'
+    → Shows rows 0 listed contents a listed' contents' × (rowValue rows k ≡ Present v))
+a-committed-assign-is-listed = corollaries.a-committed-assign-is-listed
+
 pub the-map-looks-up-a-committed-assign : {ds : List Deed} {m : MapCells} (n k v t : ℕ)
     → MapReached (Did (Commit n t) ∷ Did (Update n k (Assign v)) ∷ ds) m → (cs : Columns) → MapLent m cs
     → lookupReply k t (m .head) cs ≡ accepted (Present v)
 the-map-looks-up-a-committed-assign = corollaries.the-map-looks-up-a-committed-assign
+
+pub the-map-lists-a-committed-assign : {ds : List Deed} {m : MapCells} (n k v t : ℕ)
+    → MapReached (Did (Commit n t) ∷ Did (Update n k (Assign v)) ∷ ds) m → (cs : Columns) → MapLent m cs
+    → (let rows = listIn (history (Did (Commit n t) ∷ Did (Update n k (Assign v)) ∷ ds) .commitments) t in
+    (listed contents : List ℕ) → length listed ≡ length contents → length rows ≤ length listed
+    → (a : Reply) (listed' contents' : List ℕ) → ListedAt t (m .head) cs listed contents a listed' contents'
+    → Shows rows 0 listed contents a listed' contents' × (rowValue rows k ≡ Present v))
+the-map-lists-a-committed-assign = corollaries.the-map-lists-a-committed-assign

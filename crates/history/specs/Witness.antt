@@ -176,14 +176,14 @@ the-list-at-4 a listed contents w =
     in
     (m .reply, m .keys-column, m .values-column)
 
--- THE MAP STORE, given the same calls
-abbrev Given : List Deed → Type 0
-Given ds = (x : MapCells) × MapReached ds x
+-- THE MAP STORE, given the same calls: one that was reached with these deeds
+abbrev MapStory : List Deed → Type 0
+MapStory ds = (x : MapCells) × MapReached ds x
 
 abbrev junk : List ℕ
 junk = 8 ∷ 8 ∷ 8 ∷ []
 
-abbrev pub map-1 : Given at-1
+abbrev pub map-1 : MapStory at-1
 unfolding firstSlot lowestFree placesOf
 map-1 = (
   _,
@@ -191,7 +191,7 @@ map-1 = (
       (begins 0 (record { reply = refl; headed = refl })),
 )
 
-abbrev pub map-2 : Given at-2
+abbrev pub map-2 : MapStory at-2
 unfolding firstSlot lowestFree placesOf
 map-2 = (
   _,
@@ -200,7 +200,7 @@ map-2 = (
 )
 
 -- key 0: refused with 3
-abbrev pub map-refused : Given at-2
+abbrev pub map-refused : MapStory at-2
 unfolding firstSlot lowestFree placesOf
 map-refused = (
   _,
@@ -208,7 +208,7 @@ map-refused = (
       (updates 1 0 (Assign 10) (record { reply = refl; headed = refl })),
 )
 
-abbrev pub map-3 : Given at-3
+abbrev pub map-3 : MapStory at-3
 unfolding firstSlot lowestFree placesOf
 map-3 = (
   _,
@@ -216,7 +216,7 @@ map-3 = (
       (commits 1 2 _ (record { answered = record { reply = refl; headed = refl }; cells = refl })),
 )
 
-abbrev pub map-4 : Given at-4
+abbrev pub map-4 : MapStory at-4
 unfolding firstSlot lowestFree placesOf
 map-4 = (
   _,
@@ -224,7 +224,7 @@ map-4 = (
       (checkpoints 2 _ (record { reply = refl; headed = refl; cells = refl })),
 )
 
-abbrev pub map-5 : Given at-5
+abbrev pub map-5 : MapStory at-5
 unfolding firstSlot lowestFree placesOf
 map-5 = (
   _,
@@ -232,7 +232,7 @@ map-5 = (
       (begins 2 (record { reply = refl; headed = refl })),
 )
 
-abbrev pub map-6 : Given at-6
+abbrev pub map-6 : MapStory at-6
 unfolding firstSlot lowestFree placesOf
 map-6 = (
   _,
@@ -240,7 +240,7 @@ map-6 = (
       (updates 2 5 (Add 3) (record { reply = refl; headed = refl })),
 )
 
-abbrev pub map-7 : Given at-7
+abbrev pub map-7 : MapStory at-7
 unfolding firstSlot lowestFree placesOf
 map-7 = (
   _,
@@ -248,7 +248,7 @@ map-7 = (
       (commits 2 4 _ (record { answered = record { reply = refl; headed = refl }; cells = refl })),
 )
 
-abbrev pub map-8 : Given at-8
+abbrev pub map-8 : MapStory at-8
 unfolding firstSlot lowestFree placesOf
 map-8 = (
   _,
@@ -256,7 +256,7 @@ map-8 = (
       (begins 4 (record { reply = refl; headed = refl })),
 )
 
-abbrev pub map-9 : Given stands
+abbrev pub map-9 : MapStory stands
 unfolding firstSlot lowestFree placesOf
 map-9 = (
   _,

@@ -8,6 +8,7 @@ use borrow.Author.Tests.{eqb-true, not-true, not-false}
 use denote.Ref.{now}
 use lib.Dec.{eqb}
 use lib.ListN.{length}
+use Rattle.rules.specs.Limits.{mostRows}
 use Rattle.rules.specs.declared.Value.the-variants.{Absent}
 use Rattle.rules.specs.Kinds.{recordBytes}
 use Rattle.rules.specs.Checkpoints.{kept as keptAt}
@@ -28,7 +29,7 @@ use Rattle.journal_checkpoint.proofs.checkpoint.Tie as tie
 
 -- what settle asks
 lent : (h : Head) (keys values j : List ℕ) → Shaped h (length keys) (length values) (length j)
-    → Inside keys values (h .base .rows) j (h .journal .used) × (h .base .rows ≤ 512) × (length keys ≡ length values)
+    → Inside keys values (h .base .rows) j (h .journal .used) × (h .base .rows ≤ mostRows) × (length keys ≡ length values)
 lent h keys values j s = (
   record {
     base = record { in-keys = s .rows; in-values = rw (← s .paired) (s .rows) };

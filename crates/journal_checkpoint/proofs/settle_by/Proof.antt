@@ -6,6 +6,7 @@ use native.Mathlib.Nat.{min-le-right}
 use native.Mathlib.Omega.{arith}
 use denote.Ref.{now}
 use lib.ListN.{length, take, drop}
+use Rattle.rules.specs.Limits.{mostRows}
 use Rattle.rules.specs.Values.{Row}
 use Rattle.rules.specs.Columns.{Filled}
 use Rattle.table.specs.Table.{Next}
@@ -45,7 +46,7 @@ copy-requires c κs =
     let ro = e .before in
     let w = ro .before .before .before .before .before in
     let a = w .before .before .before .before .before .before .before .before .before .before .args in
-    (next-within _ _ _ _ _ _ (w .listing .ensures) .in-keys, omega (arith, ro .row-room .ensures, e .if1 .left, min-le-right 512 (length (now (a .keys)))))
+    (next-within _ _ _ _ _ _ (w .listing .ensures) .in-keys, omega (arith, ro .row-room .ensures, e .if1 .left, min-le-right mostRows (length (now (a .keys)))))
 
 copy-requires-2 : tie.Need-copy-requires-2
 copy-requires-2 c κs =
@@ -54,7 +55,7 @@ copy-requires-2 c κs =
     let w = ro .before .before .before .before .before in
     let s = w .before .before .before .before .before .before .before .before .before .before in
     let a = s .args in
-    (next-within _ _ _ _ _ _ (w .listing .ensures) .in-values, omega (arith, ro .row-room .ensures, e .if1 .left, s .pre .2, min-le-right 512 (length (now (a .keys)))))
+    (next-within _ _ _ _ _ _ (w .listing .ensures) .in-values, omega (arith, ro .row-room .ensures, e .if1 .left, s .pre .2, min-le-right mostRows (length (now (a .keys)))))
 
 returns-2 : tie.Need-returns-2
 returns-2 c =
