@@ -12,7 +12,6 @@ use borrow.Author.Tests.{not-false, eqb-true, eqb-false, eq-eqb, le-leb, le-ltb,
 use Rattle.rules.specs.declared.Value.the-variants.{Absent, Present}
 use Rattle.rules.specs.Bools.{split}
 use Rattle.rules.specs.Passed.{passed, fitting}
-use Rattle.rules.specs.Listing.{Lists}
 use Rattle.rules.specs.Running.{running-runs}
 use Rattle.rules.specs.Calls.{Store, lastOf, runningOf, runsIn, valueOf, listOf, readOf, Call, Begin, Update, Abort, Commit, gives, readRefusal, lookupRefusal, listRefusal, checkpointRefusal, need, withRoom, answer, listAnswer, checkpointAnswer}
 use Rattle.record.specs.Laws.{length-records}
@@ -21,9 +20,8 @@ use Rattle.journal_store.specs.declared.Head.{Head}
 use Rattle.journal_store.specs.Shape.{roomOf, rowRoom, meaning}
 use Rattle.journal_store.specs.Contracts.{number, Wrote, readDecided, lookupDecided, shapedReply, listNumber, ListedBy, checkpointNumber}
 use Rattle.journal_store.specs.Laws.{reply-good}
-use Rattle.history.specs.History.{Commitment, History, Deed, Did, Checkpointed, numbers, history, valueIn, reads, listIn, writtenBy, isPresent}
+use Rattle.history.specs.History.{History, Deed, Did, Checkpointed, numbers, history, valueIn, reads, listIn}
 use Rattle.history.specs.Refusals.{lastIn, timeRefused, refusalIn, givesIn, needIn, numberIn, lookupNumber, readNumber}
-use Rattle.history.specs.Listed.{value-present, history-lists}
 use Rattle.history.specs.Lawful.{Lawful}
 use Rattle.history.specs.RefusalsTold.{length-numbers}
 use Rattle.history.specs.Whole.{whole-refuses}
@@ -35,11 +33,6 @@ use Rattle.history.specs.Cells.{Cells, meaningOf, end, Lent, Shows, Regi
 use Rattle.history.specs.Rows.{shown-registers}
 use Rattle.history.specs.Lent.{told-same, shows-same, tie, lent-passes, lent-meaning}
 use Rattle.journal_store.specs.Contracts as checkpoint
-
--- The history's list has every register written by a transaction committed at or before t, and no other; each with the history's value, once, keys rising.
-pub list-has : (cs : List Commitment) (t : ℕ)
-    → Lists (valueIn cs t) (listIn cs t) × ((k : ℕ) → isPresent (valueIn cs t k) ≡ writtenBy cs t k)
-list-has cs t = (history-lists cs t, λ k. value-present cs t k)
 
 -- the wanted room matters only where nothing else refuses
 pub room-same : (refused refused' wanted wanted' room : ℕ) → refused ≡ refused' → (refused ≡ 0 → wanted ≡ wanted')

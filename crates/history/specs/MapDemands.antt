@@ -14,13 +14,13 @@ use Rattle.rules.specs.Bools.{split}
 use Rattle.rules.specs.Lists.{among}
 use Rattle.rules.specs.Passed.{passed, fitting}
 use Rattle.rules.specs.Calls.{Call, Begin, Update, Abort, Commit, withRoom}
-use Rattle.rules.specs.declared.Value.the-variants.{Present}
+use Rattle.rules.specs.declared.Value.the-variants.{Absent, Present}
 use Rattle.answer.specs.Reply.{Reply, accepted, told, after}
 use Rattle.slot.specs.Places.{Place, free, taken, placeOf}
 use Rattle.versions.specs.Versions.{Columns}
 use Rattle.versions.specs.Laws.{length-versions}
 use Rattle.journal_store.specs.declared.Head.{Head}
-use Rattle.journal_store.specs.Shape.{roomOf}
+use Rattle.journal_store.specs.Shape.{roomOf, rowRoom}
 use Rattle.journal_store.specs.Contracts.{Wrote, readDecided, lookupDecided, shapedReply, ListedBy}
 use Rattle.map_store.specs.declared.MapHead.{MapHead}
 use Rattle.map_store.specs.Meaning.{MapStore, mapAnswer, abortRefusal, placeRefusal, rowsAt}
@@ -34,11 +34,12 @@ use Rattle.history.specs.MapMeanings.{map-gives, map-refuses, map-times,
 use Rattle.history.specs.Cells.{Cells, end, Lent, Shows, Registers, Reached}
 use Rattle.history.specs.Rows.{shown-registers}
 use Rattle.history.specs.Lent.{told-same, shows-same, shows-alike}
-use Rattle.history.specs.Demands.{accepted-is-lawful, room-same, in-time, list-answers, looks-up-the-history, reads-the-history, calls-answer}
+use Rattle.history.specs.Demands.{accepted-is-lawful, room-same, in-time, list-answers, looks-up-the-history, reads-the-history, calls-answer, checkpoint-answers}
 use Rattle.history.specs.MapCells.{MapCells, MapLent, Does, begins, updates, aborts, commits, checkpoints, MapReached, map-start, did, Given, nothing-given, given}
 use Rattle.history.specs.MapMeant.{map-meant, map-lent-passes, map-lent-meaning}
 use Rattle.versions.specs.Versions as versions
 use Rattle.map_store.specs.Meaning as map
+use Rattle.journal_store.specs.Contracts as checkpoint
 use Rattle.map_store.specs.Contracts as contract
 use Rattle.map_store.specs.Shape as shape
 
@@ -226,3 +227,14 @@ module _ {room : ℕ → Type 0} {ds : List Deed} {since : ℕ} {x : Cells} (j :
       let e = but-for-room (refusalIn (Did c) h) (x .head .journal .used + needIn c h) (roomOf (length journal)) (λ z. one (ap (λ (i : Reply). i .number) p ∙ z)) in
       let f = but-for-rows (m .head .used) (shape.roomOf (length (cs .keys))) (Did c) h (λ z. other (ap (λ (i : Reply). i .number) q ∙ z)) in
       p ∙ ap (λ (n : ℕ). told n (givesIn c h)) (e ∙ sym f) ∙ sym q
+
+  -- A checkpoint too, for which the map store always has room.
+  pub stores-checkpoint-alike : (T : ℕ) (a a' : Reply) (head : Head) (keys' values' journal' : List ℕ) (head' : MapHead) {cs' : Columns}
+      → checkpoint.Checkpointed T (x .head) keys values journal a head keys' values' journal' → Does (m .head) cs a' head' (Checkpointed T) cs'
+      → a .number ≢ 12 → a ≡ a'
+  stores-checkpoint-alike T a a' head keys' values' journal' head' u v one =
+      let h = history ds in
+      let p = checkpoint-answers j keys values journal b T a head keys' values' journal' u in
+      let q = map-answers r cs l a' head' v in
+      let e = but-for-room (refusalIn (Checkpointed T) h) (length (listIn (h .commitments) T)) (rowRoom (length keys)) (λ z. one (ap (λ (i : Reply). i .number) p ∙ z)) in
+      p ∙ ap (λ (n : ℕ). told n Absent) e ∙ sym q

@@ -1,5 +1,5 @@
 -- Recovery: what it keeps answers as the history in which the running transactions that it drops were aborted. Assumes nothing.
-use mathlib.Core.Path.{_≡_, refl, ap, sym, _∙_}
+use mathlib.Core.Path.{_≡_, refl, ap, _∙_}
 use mathlib.Core.Bool.{Bool, true, false, cond, not, false≢true}
 use mathlib.Core.List.{List, [], _∷_}
 use Prim.Native.Nat.{ℕ, _≤_, max}
@@ -11,7 +11,6 @@ use Rattle.rules.specs.declared.Value.{Value}
 use Rattle.rules.specs.Kinds.{isBegin, isCommit, isEnd, aborted}
 use Rattle.rules.specs.Transactions.{any, runs}
 use Rattle.rules.specs.Times.{last, above}
-use Rattle.rules.specs.Values.{value}
 use Rattle.rules.specs.Lists.{among}
 use Rattle.rules.specs.Checkpoints.{sift}
 use Rattle.rules.specs.Recovery.{done, only}
@@ -20,7 +19,6 @@ use Rattle.history.specs.Good.{Good, none, more, abort-step}
 use Rattle.history.specs.GoodLaws.{begun-of, snapshot-within}
 use Rattle.history.specs.Alike.{Alike, alike-step}
 use Rattle.history.specs.Kept.{Fitting, fit-more, last-sift, good-sift}
-use Rattle.history.specs.ValueSince.{since-all, since-sift}
 use Rattle.history.specs.KeptAlike.{ends, fit-done, alike-sift}
 
 -- an abort of each of these numbers that runs
@@ -114,13 +112,6 @@ module _ (K : ℕ → Bool) {walked : ℕ} {a : List Record} (keeps : (n : ℕ) 
   -- last stays
   pub last-recover : last walked (only K a) ≡ last walked a
   last-recover = rw (← sift-low K g) (last-sift K walked walked (omega arith) fit)
-
-  -- values stay
-  pub value-recover : (v : Value) (k t : ℕ) → value v k t (only K a) ≡ value v k t a
-  value-recover v k t =
-      sym (since-all k t walked v good-recover)
-      ∙ rw (← sift-low K g) (since-sift k t walked K walked v (omega arith) fit)
-      ∙ since-all k t walked v g
 
   -- it answers as the whole journal with the aborts, where of the running ones those are kept that are not aborted
   pub alike-recover : (low fa fb : ℕ) (va vb : ℕ → Value) (b : List Record) → walked ≤ low → Alike low fa fb va vb a b

@@ -215,6 +215,13 @@ pub stores-answer-alike : {room : ℕ → Type 0} {ds : List Deed} {since : ℕ}
     → Does (m .head) cs a' head' (Did c) cs' → a .number ≢ 12 → a' .number ≢ 12 → a ≡ a'
 stores-answer-alike = map.stores-answer-alike
 
+-- To a checkpoint too.
+pub stores-checkpoint-alike : {room : ℕ → Type 0} {ds : List Deed} {since : ℕ} {x : Cells} → Reached room ds since x → (keys values journal : List ℕ)
+    → Lent x (end x) keys values journal → {m : MapCells} → MapReached ds m → (cs : Columns) → MapLent m cs → (T : ℕ) (a a' : Reply)
+    (head : Head) (keys' values' journal' : List ℕ) (head' : MapHead) {cs' : Columns}
+    → store.Checkpointed T (x .head) keys values journal a head keys' values' journal' → Does (m .head) cs a' head' (Checkpointed T) cs' → a .number ≢ 12 → a ≡ a'
+stores-checkpoint-alike = map.stores-checkpoint-alike
+
 -- THE CUT. At any byte from the journal's end at the latest checkpoint, recovery or empty start to its end now, whatever is lent behind it and whatever
 -- used count the lent head has: recovery accepts, and the sequence goes on from what survived, with an abort for each transaction that ran.
 pub the-cut-is-accepted : {room : ℕ → Type 0} {ds : List Deed} {since : ℕ} {x : Cells} → Reached room ds since x → (survived : ℕ) → Cut x since survived
