@@ -1,1 +1,2 @@
+-- What the steps of the call make of the cells, and the laws that lead from there to its contract, which is in `map_store`.
 pub mod List

@@ -1,7 +1,7 @@
 -- What a reader must believe.
 pub mod Bytes
-pub mod Numbers
 -- Laws of it, and that no second answer satisfies a contract.
+pub mod Numbers
 pub mod Laws
 pub mod Laid
 pub mod Walks
