@@ -2,6 +2,7 @@
 pub mod Column
 pub mod Among
 -- Laws of it, and that no second answer satisfies a contract.
+pub mod AmongLaws
 pub mod Laws
 pub mod Unique
 -- Examples, computed.

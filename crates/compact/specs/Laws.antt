@@ -19,7 +19,8 @@ use Rattle.rules.specs.Recovery.{formed, judge, accepts, done, only, survivors}
 use Rattle.record.specs.Bytes.{recordsIn}
 use Rattle.record.specs.Laws.{Fit}
 use Rattle.record.specs.Laid.{laid, AllFit, none, more, length-laid, records-laid, drop-more}
-use Rattle.journal.specs.Gathered.{lates, Gathered, running-held, late-held}
+use Rattle.journal.specs.Gathered.{lates, Gathered}
+use Rattle.journal.specs.GatheredLaws.{running-held, late-held}
 use Rattle.journal.specs.Past.{low-last}
 use Rattle.walk.specs.Judged.{judged}
 use Rattle.compact.specs.Compact.{keptIn, sifted, zeroed, compacted, Moved, Compacted}

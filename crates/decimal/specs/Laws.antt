@@ -9,7 +9,8 @@ use native.Mathlib.Decide.{decLt}
 use native.Mathlib.Omega.{arith}
 use lib.ListN.{length, take, getD, length-append, List·getD-append}
 use lib.Seq.{take-suc, take-length, getD-at}
-use Rattle.decimal.specs.Digits.{glyph, digits, digits-short, digits-long, spell, spellFrom, IsDigit, Plain}
+use Rattle.decimal.specs.Digits.{glyph, digits, spell, spellFrom, IsDigit, Plain}
+use Rattle.decimal.specs.DigitsLaws.{digits-short, digits-long}
 
 module _ (P : ℕ → Type 0) (short : (n : ℕ) → n < 10 → P n) (long : (n : ℕ) → 10 ≤ n → P (n / 10) → P n) where
   -- the same below a bound, by which it recurses

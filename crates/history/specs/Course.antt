@@ -25,6 +25,6 @@ recoveredBy keep s = record { low = s .low; floor = nextOf s; base = s .base; re
 abbrev pub recovered : Store → Store
 recovered s = recoveredBy (done (s .records)) s
 
--- the low that recovery's walk goes by, which the invariant of a sequence keeps apart from the low that answers go by
+-- the low that recovery's walk goes by: the store's own; the invariant of a sequence keeps it apart from the low that answers go by
 abbrev pub walkLow : Store → ℕ
 walkLow s = s .low

@@ -1,8 +1,6 @@
 -- Deeds that the history does not refuse, room apart: what every sequence consists of. Assumes nothing.
 use mathlib.Core.Path.{_≡_}
 use mathlib.Core.List.{List, [], _∷_}
-use Prim.Native.Nat.{ℕ, zero, suc}
-use lib.ListN.{drop}
 use Rattle.history.specs.History.{Deed, history}
 use Rattle.history.specs.Refusals.{refusalIn}
 
@@ -10,9 +8,3 @@ use Rattle.history.specs.Refusals.{refusalIn}
 pub data Lawful : List Deed → Type 0 where
   start : Lawful []
   went : {d : Deed} {ds : List Deed} → Lawful ds → refusalIn d (history ds) ≡ 0 → Lawful (d ∷ ds)
-
--- the newest forgotten
-pub lawful-drop : (x : ℕ) {ds : List Deed} → Lawful ds → Lawful (drop x ds)
-lawful-drop zero l = l
-lawful-drop (suc x) start = start
-lawful-drop (suc x) (went l e) = lawful-drop x l

@@ -16,6 +16,7 @@ pub mod Corollaries
 pub mod Witness
 pub mod Marked
 -- The same on what a journal store means: the invariant of its sequences.
+pub mod LawfulLaws
 pub mod Course
 pub mod Good
 pub mod GoodLaws

@@ -11,7 +11,8 @@ use Rattle.rules.specs.declared.Value.the-variants.{Present}
 use Rattle.rules.specs.Bools.{split, and-left, and-right}
 use Rattle.rules.specs.Values.{Row, rowValue}
 use Rattle.rules.specs.Lists.{rising, rowKeys}
-use Rattle.rules.specs.Columns.{rowValues, length-keys, length-values}
+use Rattle.rules.specs.Columns.{rowValues}
+use Rattle.rules.specs.ColumnLaws.{length-keys, length-values}
 use Rattle.answer.specs.Reply.{Reply, accepted}
 use Rattle.history.specs.History.{Commitment, valueIn, listIn, isPresent}
 use Rattle.history.specs.Cells.{Shows, Registers}

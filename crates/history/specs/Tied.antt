@@ -35,7 +35,8 @@ use Rattle.history.specs.GoodLaws.{above-mono, above-least, above-top, l
 use Rattle.history.specs.Replayed.{whole, whole-floor}
 use Rattle.history.specs.Allowed.{refused, Allowed, may-checkpoint, allowed}
 use Rattle.history.specs.Written.{begins-next, same-record, call-step}
-use Rattle.history.specs.Lawful.{Lawful, start, went, lawful-drop}
+use Rattle.history.specs.Lawful.{Lawful, start, went}
+use Rattle.history.specs.LawfulLaws.{lawful-drop}
 use Rattle.history.specs.Told.{runner}
 use Rattle.history.specs.Whole.{sound, tells, whole-refuses, lawful-aborting, whole-aborting, low-aborting}
 

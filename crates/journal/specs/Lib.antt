@@ -3,6 +3,8 @@ pub mod Kinds
 pub mod Walks
 pub mod Gathered
 -- Laws of it, and that no second answer satisfies a contract.
+pub mod WalksLaws
+pub mod GatheredLaws
 pub mod Ends
 pub mod Some
 pub mod Meets

@@ -12,7 +12,8 @@ use Rattle.rules.specs.Kinds.{recordBytes}
 use Rattle.rules.specs.Passed.{fitting}
 use Rattle.rules.specs.Values.{Row}
 use Rattle.rules.specs.Lists.{rowKeys}
-use Rattle.rules.specs.Columns.{rowValues, length-keys, length-values}
+use Rattle.rules.specs.Columns.{rowValues}
+use Rattle.rules.specs.ColumnLaws.{length-keys, length-values}
 use Rattle.rules.specs.Checkpoints.{kept}
 use Rattle.rules.specs.Recovery.{done, survivors}
 use Rattle.rules.specs.Times.{next}

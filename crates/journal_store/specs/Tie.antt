@@ -13,7 +13,8 @@ use Rattle.rules.specs.declared.Effect.the-variants.{Assign, Add}
 use Rattle.rules.specs.Kinds.{recordBytes}
 use Rattle.rules.specs.Times.{above}
 use Rattle.rules.specs.Lists.{rowKeys}
-use Rattle.rules.specs.Columns.{rowValues, front-rows}
+use Rattle.rules.specs.Columns.{rowValues}
+use Rattle.rules.specs.ColumnLaws.{front-rows}
 use Rattle.rules.specs.Checkpoints.{kept}
 use Rattle.rules.specs.Recovery.{done, survivors}
 use Rattle.rules.specs.Calls.{Store, Call, Begin, Update, Abort, Commit, recordOf, push, checkpointed, listOf}

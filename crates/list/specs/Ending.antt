@@ -10,7 +10,8 @@ use Rattle.rules.specs.Kinds.{recordBytes}
 use Rattle.journal_store.specs.declared.Head.{Head}
 use Rattle.journal_store.specs.Shape.{emptyHead}
 use Rattle.report.specs.Written.{Reported}
-use Rattle.report.specs.Refused.{isRefused, letter-tells}
+use Rattle.report.specs.Refused.{isRefused}
+use Rattle.report.specs.RefusedLaws.{letter-tells}
 use Rattle.list.specs.declared.Ending.{Ending}
 use Rattle.list.specs.declared.Ending.the-variants.{Listed, Empty, Refused}
 

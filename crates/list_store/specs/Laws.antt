@@ -13,7 +13,8 @@ use lib.Seq.{drop-length, take-all}
 use Rattle.journal_store.specs.declared.Head.{Head}
 use Rattle.report.specs.Text.{reportText, reportCells}
 use Rattle.report.specs.Written.{Written, Reported}
-use Rattle.report.specs.Refused.{isRefused, letter-tells}
+use Rattle.report.specs.Refused.{isRefused}
+use Rattle.report.specs.RefusedLaws.{letter-tells}
 use Rattle.store_file.specs.Layout.{journalAt, isWhole, headOf, baseKeys, baseValues, journalOf}
 use Rattle.store_file.specs.Laws.{WholeAt}
 use Rattle.list_store.specs.declared.Ending.the-variants.{Listed, Refused, Broken}

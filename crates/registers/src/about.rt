@@ -2,6 +2,7 @@
 // compares its constants and structs with them.
 ghost use mathlib.Core.Path.{_≡_};
 ghost use Prim.Native.Nat.{_≤_};
+ghost use Rattle.rules.specs.Limits.{mostRunning, mostKeys};
 ghost use Rattle.registers.specs.About.{limits, numbers, journalSample, mapSample, countedFrom, slotFrom, slotsFrom};
 use answer::Refusal;
 use journal::Base;
@@ -122,7 +123,7 @@ const SLOT_FIELDS: u32 = 3 + 2 * Slot::KEYS as u32;
 // The eight slots, whose first field has the place given.
 fn slots_from(place: u32) -> [Slot; 8]
     requires { ⌜ place ≤ 1000 ⌝ }
-    ensures { λ r. ⌜ r ≡ slotsFrom place 8 ⌝ }
+    ensures { λ r. ⌜ r ≡ slotsFrom place mostRunning ⌝ }
 {
     let free = Slot::free();
     let mut slots = [free; Slots::SLOTS];
@@ -155,7 +156,7 @@ fn slot_from(place: u32) -> Slot
 // The rows of a slot's column, whose first has the place given.
 fn counted_from(place: u32) -> [u32; 32]
     requires { ⌜ place ≤ 3000 ⌝ }
-    ensures { λ r. ⌜ r ≡ countedFrom place 32 ⌝ }
+    ensures { λ r. ⌜ r ≡ countedFrom place mostKeys ⌝ }
 {
     let mut cells = [0; Slot::KEYS];
     let mut at = place;

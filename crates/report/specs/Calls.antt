@@ -18,7 +18,8 @@ use Rattle.rules.specs.Effects.{orZero}
 use Rattle.rules.specs.Times.{last, above, next}
 use Rattle.rules.specs.Values.{Row}
 use Rattle.rules.specs.Lists.{rowKeys}
-use Rattle.rules.specs.Columns.{rowValues, firstRows, front-rows}
+use Rattle.rules.specs.Columns.{rowValues, firstRows}
+use Rattle.rules.specs.ColumnLaws.{front-rows}
 use Rattle.rules.specs.Calls.{listAnswer, lastOf, listOf}
 use Rattle.rules.specs.Recovery.{walk, survivors}
 use Rattle.record.specs.Bytes.{Bytes, recordsIn}

@@ -16,7 +16,8 @@ use Rattle.rules.specs.Kinds.{isUpdate, isBegin}
 use Rattle.rules.specs.Times.{above}
 use Rattle.rules.specs.Values.{Row, valueAt}
 use Rattle.rules.specs.Lists.{put, enter, listed, knownKeys, listAt}
-use Rattle.rules.specs.Columns.{rowsOf, firstRows, length-keys}
+use Rattle.rules.specs.Columns.{rowsOf, firstRows}
+use Rattle.rules.specs.ColumnLaws.{length-keys}
 use Rattle.decimal.specs.Digits.{digits}
 use Rattle.decimal.specs.Printed.{Printed}
 use Rattle.decimal.specs.Laws.{digits-32}

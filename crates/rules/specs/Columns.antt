@@ -1,9 +1,8 @@
 -- Rows as they are lent: a column of keys and one of values. Assumes nothing.
-use mathlib.Core.Path.{_≡_, refl}
+use mathlib.Core.Path.{_≡_}
 use mathlib.Core.List.{List, [], _∷_, _++_}
 use Prim.Native.Nat.{ℕ, _≤_}
 use lib.ListN.{length, take, drop}
-use lib.Seq.{take-at}
 use Rattle.rules.specs.Values.{Row}
 use Rattle.rules.specs.Lists.{rowKeys}
 
@@ -31,31 +30,3 @@ pub record Rows (keys values : List ℕ) (rows : ℕ) : Type 0 where
 pub record Filled (rows : List Row) (keys values keys' values' : List ℕ) : Type 0 where
   pub keys-column : keys' ≡ rowKeys rows ++ drop (length rows) keys
   pub values-column : values' ≡ rowValues rows ++ drop (length rows) values
-
-pub length-keys : (rows : List Row) → length (rowKeys rows) ≡ length rows
-length-keys [] = refl
-length-keys (row ∷ rows) = rw (length-keys rows)
-
-pub length-values : (rows : List Row) → length (rowValues rows) ≡ length rows
-length-values [] = refl
-length-values (row ∷ rows) = rw (length-values rows)
-
--- the columns of some rows have these rows
-pub columns-rows : (rows : List Row) → rowsOf (rowKeys rows) (rowValues rows) ≡ rows
-columns-rows [] = refl
-columns-rows (row ∷ rows) = rw (columns-rows rows)
-
--- and so they have where they stand at the front of longer columns
-pub front-rows : (rows : List Row) (keys values : List ℕ) → firstRows (length rows) (rowKeys rows ++ keys) (rowValues rows ++ values) ≡ rows
-front-rows rows keys values =
-    rw (take-at (rowKeys rows) keys (length rows) (length-keys rows), take-at (rowValues rows) values (length rows) (length-values rows))
-    (columns-rows rows)
-
--- one row more in each column
-pub keys-more : (rows more : List Row) → rowKeys (rows ++ more) ≡ rowKeys rows ++ rowKeys more
-keys-more [] more = refl
-keys-more (row ∷ rows) more = rw (keys-more rows more)
-
-pub values-more : (rows more : List Row) → rowValues (rows ++ more) ≡ rowValues rows ++ rowValues more
-values-more [] more = refl
-values-more (row ∷ rows) more = rw (values-more rows more)

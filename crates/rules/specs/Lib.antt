@@ -12,6 +12,7 @@ pub mod Checkpoints
 pub mod Recovery
 pub mod Calls
 -- Laws of it, and that no second answer satisfies a contract.
+pub mod ColumnLaws
 pub mod Bools
 pub mod Passed
 pub mod Meeting

@@ -1,4 +1,5 @@
 -- What a reader must believe.
 pub mod Moves
--- That no second answer satisfies a contract.
+-- Laws of it, and that no second answer satisfies a contract.
+pub mod MovesLaws
 pub mod Unique

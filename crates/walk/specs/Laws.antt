@@ -21,7 +21,7 @@ use Rattle.rules.specs.Running.{without, running-skip, running-end, running-run
 use Rattle.rules.specs.Recovery.{numbered, timely, limited, judge}
 use Rattle.journal.specs.Past.{Past, past-last}
 use Rattle.walk.specs.declared.State.{State}
-use Rattle.column.specs.Among.{among-end}
+use Rattle.column.specs.AmongLaws.{among-end}
 use Rattle.walk.specs.Judged.{judged}
 use Rattle.walk.specs.Walk.{started, pushed, latest, Held, Room, Without, Open, Tracks, numberedBy, timelyBy}
 

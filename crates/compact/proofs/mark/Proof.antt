@@ -11,7 +11,8 @@ use borrow.Author.Tests.{not-true, not-false}
 use denote.Ref.{now}
 use lib.ListN.{length, take, getD}
 use lib.Seq.{take-suc}
-use Rattle.compact.specs.Marks.{Marks, MarkSet, no-marks}
+use Rattle.compact.specs.Marks.{Marks, MarkSet}
+use Rattle.compact.specs.MarksLaws.{no-marks}
 use Rattle.compact.proofs.mark.Statement.{statement}
 use Rattle.compact.proofs.mark.Tie as tie
 use Rattle.compact.proofs.set_mark.Reads as set-mark-reads

@@ -1,7 +1,7 @@
 -- `compact::set_mark` meets its contract. Assumes nothing.
 use mathlib.Core.Path.{refl}
 use denote.Ref.{now}
-use Rattle.compact.specs.Marks.{mark-new, mark-old}
+use Rattle.compact.specs.MarksLaws.{mark-new, mark-old}
 use borrow.Author.Needs.{needs}
 use Rattle.compact.proofs.set_mark.Statement.{statement}
 use Rattle.compact.proofs.set_mark.Tie as tie

@@ -10,7 +10,8 @@ use borrow.Fn.PlainCycle.{Measures, is, falls, and}
 use denote.Ref.{now}
 use lib.ListN.{length, take, drop, set, getD, length-set, length-append}
 use lib.Seq.{set-split, set-at, drop-cons, length-take-le}
-use Rattle.decimal.specs.Digits.{glyph, digits, digits-short, digits-long}
+use Rattle.decimal.specs.Digits.{glyph, digits}
+use Rattle.decimal.specs.DigitsLaws.{digits-short, digits-long}
 use Rattle.decimal.specs.Laws.{length-short, length-long}
 use Rattle.decimal.specs.Printed.{Printed}
 use Rattle.decimal.proofs.print.Reads as print

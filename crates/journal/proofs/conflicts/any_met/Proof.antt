@@ -6,7 +6,7 @@ use lib.ListN.{take}
 use Rattle.rules.specs.Transactions.{any}
 use Rattle.record.specs.Bytes.{recordsIn}
 use Rattle.record.specs.Walks.{onward, finish}
-use Rattle.journal.specs.Walks.{any-met, any-other}
+use Rattle.journal.specs.WalksLaws.{any-met, any-other}
 use Rattle.journal.specs.Gathered.{metIn}
 use borrow.Author.Needs.{needs}
 use native.Mathlib.Omega.{arith}

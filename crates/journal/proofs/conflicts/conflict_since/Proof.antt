@@ -8,7 +8,8 @@ use Rattle.rules.specs.declared.Record.{Record}
 use Rattle.rules.specs.Transactions.{any, of, keysWritten}
 use Rattle.rules.specs.Conflicts.{conflict}
 use Rattle.record.specs.Bytes.{recordsIn}
-use Rattle.journal.specs.Gathered.{metIn, lates, Gathered, keys-held, late-held}
+use Rattle.journal.specs.Gathered.{metIn, lates, Gathered}
+use Rattle.journal.specs.GatheredLaws.{keys-held, late-held}
 use Rattle.journal.specs.Meets.{meets, meets-conflict}
 use borrow.Author.Needs.{needs}
 use denote.Ref.{now}

@@ -7,7 +7,8 @@ use lib.ListN.{length, take, length-set}
 use Rattle.rules.specs.Transactions.{of, keysWritten}
 use Rattle.record.specs.Bytes.{recordsIn}
 use Rattle.record.specs.Walks.{onward}
-use Rattle.journal.specs.Gathered.{newKey, Gathered, gathered-none, gathered-more, gathered-same, keys-held, keys-more}
+use Rattle.journal.specs.Gathered.{newKey, Gathered}
+use Rattle.journal.specs.GatheredLaws.{gathered-none, gathered-more, gathered-same, keys-held, keys-more}
 use borrow.Author.Needs.{needs}
 use native.Mathlib.Omega.{arith}
 use denote.Ref.{now}

@@ -7,7 +7,8 @@ use lib.ListN.{length, length-set}
 use Rattle.rules.specs.Checkpoints.{late}
 use Rattle.record.specs.Bytes.{recordsIn}
 use Rattle.record.specs.Walks.{onward}
-use Rattle.journal.specs.Gathered.{lates, Gathered, gathered-none, gathered-more, gathered-same}
+use Rattle.journal.specs.Gathered.{lates, Gathered}
+use Rattle.journal.specs.GatheredLaws.{gathered-none, gathered-more, gathered-same}
 use borrow.Author.Needs.{needs}
 use native.Mathlib.Omega.{arith}
 use denote.Ref.{now}

@@ -11,7 +11,8 @@ use Rattle.rules.specs.Bools.{or-right, or-false}
 use Rattle.rules.specs.Lists.{among}
 use Rattle.rules.specs.Transactions.{of, wrote, keysWritten, mayWrite}
 use Rattle.record.specs.Bytes.{recordsIn}
-use Rattle.journal.specs.Gathered.{Gathered, keys-held}
+use Rattle.journal.specs.Gathered.{Gathered}
+use Rattle.journal.specs.GatheredLaws.{keys-held}
 use borrow.Author.Needs.{needs}
 use denote.Ref.{now}
 use Rattle.journal.proofs.conflicts.may_write.Statement.{statement}

@@ -7,7 +7,8 @@ use denote.Ref.{now}
 use Rattle.rules.specs.Transactions.{of}
 use Rattle.record.specs.Bytes.{recordsIn}
 use Rattle.record.specs.Walks.{turn, finish}
-use Rattle.journal.specs.Walks.{traced, traceOf, trace-more}
+use Rattle.journal.specs.Walks.{traced, traceOf}
+use Rattle.journal.specs.WalksLaws.{trace-more}
 use Rattle.journal.proofs.transactions.follow.Statement.{statement}
 use Rattle.journal.proofs.transactions.follow.Tie as tie
 

@@ -6,7 +6,7 @@ use Rattle.rules.specs.Transactions.{any}
 use Rattle.rules.specs.Checkpoints.{heldBy}
 use Rattle.record.specs.Bytes.{recordsIn}
 use Rattle.record.specs.Walks.{onward, finish}
-use Rattle.journal.specs.Walks.{any-met, any-other}
+use Rattle.journal.specs.WalksLaws.{any-met, any-other}
 use borrow.Author.Needs.{needs}
 use native.Mathlib.Omega.{arith}
 use denote.Ref.{now}

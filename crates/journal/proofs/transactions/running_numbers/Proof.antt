@@ -9,7 +9,8 @@ use Rattle.rules.specs.Transactions.{opens, runningIn}
 use Rattle.record.specs.Bytes.{recordsIn}
 use Rattle.record.specs.Walks.{onward, turn}
 use Rattle.journal.specs.Ends.{top}
-use Rattle.journal.specs.Gathered.{Gathered, gathered-none, gathered-more, gathered-same}
+use Rattle.journal.specs.Gathered.{Gathered}
+use Rattle.journal.specs.GatheredLaws.{gathered-none, gathered-more, gathered-same}
 use borrow.Author.Needs.{needs}
 use native.Mathlib.Omega.{arith}
 use denote.Ref.{now}

@@ -4,7 +4,7 @@ use mathlib.Core.Path.{_≡_, sym, _∙_}
 use native.Mathlib.Omega.{arith}
 use lib.ListN.{length, length-take, length-drop}
 use borrow.Author.Needs.{needs}
-use Rattle.streams.specs.Moves.{goes-on, stops}
+use Rattle.streams.specs.MovesLaws.{goes-on, stops}
 use Rattle.streams.proofs.input.read_all.Statement.{statement}
 use Rattle.streams.proofs.input.read_all.Tie as tie
 

@@ -1,5 +1,5 @@
 -- `read_on` moves bytes within the room, as C's read does. Assumes nothing.
-use Rattle.streams.specs.Moves.{moved-within}
+use Rattle.streams.specs.MovesLaws.{moved-within}
 use borrow.Author.Needs.{needs}
 use Rattle.streams.proofs.input.read_on.Statement.{statement}
 use Rattle.streams.proofs.input.read_on.Tie as tie

@@ -1,5 +1,5 @@
 -- `write_on` moves bytes that are there, as C's write does. Assumes nothing.
-use Rattle.streams.specs.Moves.{moved-within}
+use Rattle.streams.specs.MovesLaws.{moved-within}
 use borrow.Author.Needs.{needs}
 use Rattle.streams.proofs.output.write_on.Statement.{statement}
 use Rattle.streams.proofs.output.write_on.Tie as tie

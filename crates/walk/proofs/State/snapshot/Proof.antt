@@ -10,7 +10,8 @@ use Rattle.column.specs.declared.Found.the-variants.{At, Nothing}
 use Rattle.column.specs.Column.{firstRow}
 use Rattle.column.specs.Laws.{First, first-at}
 use Rattle.walk.specs.declared.State.{State}
-use Rattle.column.specs.Among.{isFound, found-among}
+use Rattle.column.specs.Among.{isFound}
+use Rattle.column.specs.AmongLaws.{found-among}
 use Rattle.walk.specs.Walk.{SnapshotOf}
 use borrow.Author.Needs.{needs}
 use native.Mathlib.Omega.{arith}
