@@ -1,0 +1,10 @@
+-- `script::sums::three` meets its contract. Assumes nothing.
+use borrow.Author.Needs.{needs}
+use Rattle.script.proofs.sums.three.Statement.{statement}
+use Rattle.script.proofs.sums.three.Tie as tie
+
+returns : tie.Need-returns
+returns c = cc
+
+pub three-spec : {M : Type 1} → statement M
+three-spec = tie.close (tie.spec (λ c κs. search needs) (λ c κs. search needs) (λ c κs. search needs) returns)
