@@ -1,8 +1,8 @@
--- `trial::on_map::slots_sum` is safe and ends: each turn leaves one slot less.
+-- `trial_map::calls::slots_sum` is safe and ends: each turn leaves one slot less.
 use Prim.Native.Nat.{_-_}
 use borrow.Author.Needs.{needs}
-use Rattle.trial.proofs.on_map.slots_sum.Statement.{statement}
-use Rattle.trial.proofs.on_map.slots_sum.Tie as tie
+use Rattle.trial_map.proofs.calls.slots_sum.Statement.{statement}
+use Rattle.trial_map.proofs.calls.slots_sum.Tie as tie
 
 abbrev Inv-loop : tie.InvT-loop
 Inv-loop sum slots s₀ i₀ s i = Unit {0}

@@ -1,0 +1,170 @@
+// The script's calls on the map store.
+use map_store::MapHead;
+use registers::Answer;
+use registers::MapResult;
+use registers::map_calls::registers_map_abort;
+use registers::map_calls::registers_map_add;
+use registers::map_calls::registers_map_assign;
+use registers::map_calls::registers_map_begin;
+use registers::map_calls::registers_map_checkpoint;
+use registers::map_calls::registers_map_commit;
+use registers::map_calls::registers_map_list;
+use registers::map_calls::registers_map_lookup;
+use registers::map_calls::registers_map_read;
+use script::line::Call;
+use script::rows;
+use script::sums;
+use script::tally::Came;
+use slot::Slot;
+use slot::Slots;
+
+// What a line is answered whose word is no call of the store: no line wants this number.
+const NO_CALL: u32 = 99;
+
+// A number alone.
+fn alone(number: u32) -> Answer {
+    Answer {
+        number,
+        present: 0,
+        value: 0,
+    }
+}
+
+// The head as it was.
+fn unchanged(head: MapHead, answer: Answer) -> MapResult {
+    MapResult { head, answer }
+}
+
+// An empty store whose next number is given.
+fn numbered(next: u32) -> MapResult {
+    let head = MapHead {
+        low: 0,
+        last: 0,
+        next,
+        used: 0,
+        slots: Slots::empty(),
+    };
+    unchanged(head, alone(0))
+}
+
+// The list at t into so many rows; or one of the rows after it, as a number and a value.
+fn listed(h: MapHead, keys: &[u32], times: &[u64], values: &[u32], call: Call) -> Answer {
+    let lent = rows::lent(call.b);
+    let mut listed = [rows::MARK; rows::ROWS];
+    let mut contents = [rows::MARK; rows::ROWS];
+    let answer = registers_map_list(
+        h,
+        keys,
+        times,
+        values,
+        call.a,
+        &mut listed[0..lent],
+        &mut contents[0..lent],
+    );
+    if call.c == 0 {
+        return answer;
+    }
+    Answer {
+        number: rows::cell(&listed, call.c),
+        present: 1,
+        value: rows::cell(&contents, call.c) as u64,
+    }
+}
+
+// The calls that change nothing.
+fn asked(h: MapHead, keys: &[u32], times: &[u64], values: &[u32], call: Call) -> Answer {
+    let word = call.word;
+    if word == Call::READ {
+        return registers_map_read(h, keys, times, values, call.n, call.k);
+    }
+    if word == Call::LOOKUP {
+        return registers_map_lookup(h, keys, times, values, call.n, call.b);
+    }
+    if word == Call::LIST {
+        return listed(h, keys, times, values, call);
+    }
+    alone(NO_CALL)
+}
+
+// The calls that change no version, and an empty store.
+fn noted(h: MapHead, keys: &[u32], times: &[u64], values: &[u32], call: Call) -> MapResult {
+    let word = call.word;
+    if word == Call::BEGIN {
+        return registers_map_begin(h, keys, times, values, call.a);
+    }
+    if word == Call::ASSIGN {
+        return registers_map_assign(h, keys, times, values, call.n, call.k, call.v);
+    }
+    if word == Call::ADD {
+        return registers_map_add(h, keys, times, values, call.n, call.k, call.v);
+    }
+    if word == Call::ABORT {
+        return registers_map_abort(h, keys, times, values, call.n);
+    }
+    if word == Call::STORE {
+        return numbered(call.n);
+    }
+    unchanged(h, asked(h, keys, times, values, call))
+}
+
+// What a line asks.
+pub(crate) fn turn(
+    h: MapHead,
+    keys: &mut [u32; rows::ROWS],
+    times: &mut [u64; rows::ROWS],
+    values: &mut [u32; rows::ROWS],
+    call: Call,
+) -> MapResult {
+    let word = call.word;
+    if word == Call::COMMIT {
+        return registers_map_commit(h, keys, times, values, call.n, call.b);
+    }
+    if word == Call::CHECKPOINT {
+        return registers_map_checkpoint(h, keys, times, values, call.a);
+    }
+    noted(h, keys, times, values, call)
+}
+
+// A slot added to a sum.
+fn slot_sum(sum: u64, s: Slot) -> u64 {
+    let keys = s.keys;
+    let values = s.values;
+    let head = sums::three(sum, s.number as u64, s.snapshot, s.count as u64);
+    sums::of_column(sums::of_column(head, &keys), &values)
+}
+
+// The eight slots added to a sum.
+fn slots_sum(sum: u64, slots: Slots) -> u64 {
+    let mut s = sum;
+    let mut i = 0;
+    while i < Slots::SLOTS {
+        s = slot_sum(s, slots.at(i));
+        i += 1;
+    }
+    s
+}
+
+// A sum of the head and all cells.
+fn sum(h: MapHead, keys: &[u32], times: &[u64], values: &[u32]) -> u64 {
+    let slots = h.slots;
+    let head = sums::three(h.low, h.last, h.next as u64, h.used as u64);
+    let columns = sums::of_column(sums::of_times(sums::of_column(head, keys), times), values);
+    slots_sum(sums::three(columns, slots.occupied as u64, 0, 0), slots)
+}
+
+// What came of it: the answer, and a sum of the head and all cells.
+pub(crate) fn came(
+    o: MapResult,
+    keys: &[u32; rows::ROWS],
+    times: &[u64; rows::ROWS],
+    values: &[u32; rows::ROWS],
+) -> Came {
+    let h = o.head;
+    let a = o.answer;
+    Came {
+        number: a.number as u64,
+        present: a.present,
+        value: a.value,
+        sum: sum(h, keys, times, values),
+    }
+}
