@@ -108,7 +108,12 @@ fn written(h: Head, keys: &[u32], values: &[u32], bytes: &mut [u8], call: Call) 
         return registers_journal_recover(h, keys, values, bytes, call.a as usize);
     }
     if word == Call::FILL {
-        sums::fill(bytes, call.a as usize, call.b as usize, (call.v % 256) as u8);
+        sums::fill(
+            bytes,
+            call.a as usize,
+            call.b as usize,
+            (call.v % 256) as u8,
+        );
         return unchanged(h, alone(0));
     }
     if word == Call::STORE {

@@ -18,9 +18,6 @@ use script::tally::Came;
 use slot::Slot;
 use slot::Slots;
 
-// What a line is answered whose word is no call of the store: no line wants this number.
-const NO_CALL: u32 = 99;
-
 // A number alone.
 fn alone(number: u32) -> Answer {
     Answer {
@@ -61,15 +58,18 @@ fn listed(h: MapHead, keys: &[u32], times: &[u64], values: &[u32], call: Call) -
         &mut listed[0..lent],
         &mut contents[0..lent],
     );
-    if call.c == 0 {
-        return answer;
+    if call.c > 0 {
+        return Answer {
+            number: rows::cell(&listed, call.c),
+            present: 1,
+            value: rows::cell(&contents, call.c) as u64,
+        };
     }
-    Answer {
-        number: rows::cell(&listed, call.c),
-        present: 1,
-        value: rows::cell(&contents, call.c) as u64,
-    }
+    answer
 }
+
+// What a line is answered whose word is no call of the store: no line wants this number.
+const NO_CALL: u32 = 99;
 
 // The calls that change nothing.
 fn asked(h: MapHead, keys: &[u32], times: &[u64], values: &[u32], call: Call) -> Answer {

@@ -23,11 +23,11 @@ fn run(script: &[u8]) {
     let mut head = MapHead::empty();
     let mut turns = Play::TURNS;
     while turns > 0 {
-        turns -= 1;
         let at = play.at;
         if at >= script.len() {
             break;
         }
+        turns -= 1;
         let line = line::read(script, at, play.x);
         play = play.after(line.call, line.end);
         if !play.asks {
