@@ -27,7 +27,8 @@ use Rattle.record.specs.Laws.{records-front, length-records, drop-records}
 use Rattle.answer.specs.Reply.{Reply, after}
 use Rattle.compact.specs.Compact.{compacted}
 use Rattle.journal_store.specs.declared.Head.{Head}
-use Rattle.journal_store.specs.Shape.{grown, isShaped, Shaped, shape, roomOf, rowRoom, meaning}
+use Rattle.journal_store.specs.Shape.{grown, isShaped, Shaped, roomOf, rowRoom, meaning}
+use Rattle.journal_store.specs.ShapedLaws.{shape}
 use Rattle.journal_store.specs.Contracts.{Wrote, number, checkpointHead, checkpointNumber, risingKeys, journalBytes, isRecoverable, surviving, recoverReply, recoveredHead, Recoverable, Recovered}
 use Rattle.journal_store.specs.Laws.{room-left, need-some, recoverable}
 use Rattle.journal_store.specs.Tie.{SizedCall, fit-call, push-meaning, checkpoint-meaning, recover-meaning}

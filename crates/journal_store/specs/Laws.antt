@@ -12,7 +12,7 @@ use Rattle.rules.specs.declared.Record.{Record}
 use Rattle.rules.specs.Bools.{split, and-left, and-right}
 use Rattle.rules.specs.Kinds.{recordBytes}
 use Rattle.rules.specs.Passed.{fitting}
-use Rattle.rules.specs.Calls.{Store, Call, refusal, need, answer, recordOf, gives, lastOf, runsIn, valueOf, readOf, listOf, listAnswer, withRoom, checkpointRefusal, checkpointAnswer}
+use Rattle.rules.specs.Calls.{Store, Call, refusal, need, answer, recordOf, gives, lastOf, runsIn, valueOf, readOf, listOf, listAnswer, withRoom, checkpointRefusal, checkpointAnswer, heldIn}
 use Rattle.rules.specs.declared.Value.{Value}
 use Rattle.rules.specs.declared.Value.the-variants.{Absent, Present}
 use Rattle.rules.specs.Lists.{rowKeys}
@@ -30,7 +30,8 @@ use Rattle.answer.specs.Laws.{after-refused, refused-some}
 use Rattle.answer.specs.declared.Refusal.{Refusal}
 use Rattle.compact.specs.Compact.{compacted}
 use Rattle.journal_store.specs.declared.Head.{Head}
-use Rattle.journal_store.specs.Shape.{grown, isShaped, roomOf, meaning, Shaped, shape, rowRoom}
+use Rattle.journal_store.specs.Shape.{grown, isShaped, roomOf, meaning, Shaped, rowRoom}
+use Rattle.journal_store.specs.ShapedLaws.{shape}
 use Rattle.journal_store.specs.Contracts.{Put, decided, number, Wrote, readDecided, lookupDecided, shapedReply, listDecided, isListShaped, listNumber, ListedBy, checkpointNumber, checkpointHead, Checkpointed, risingKeys, journalBytes, isRecoverable, surviving, recoverReply, recoveredHead, Recovered, Recoverable}
 
 -- an accepted call has the room that it needs
@@ -192,7 +193,7 @@ module _ (t : ℕ) (s : Store) where
     pub checkpoint-future : i ≡ true → told 5 Absent ≡ told (checkpointRefusal t s) Absent
     checkpoint-future b = rw (le-ltb t (s .low) a, sym e ∙ b)
 
-    module _ (b : i ≡ false) (d : Bool) (g : d ≡ held t (s .records)) where
+    module _ (b : i ≡ false) (d : Bool) (g : d ≡ heldIn t s) where
       pub checkpoint-held : d ≡ true → told 9 Absent ≡ told (checkpointRefusal t s) Absent
       checkpoint-held f = rw (le-ltb t (s .low) a, sym e ∙ b, sym g ∙ f)
 

@@ -2,6 +2,7 @@
 pub mod Shape
 pub mod Contracts
 -- Laws of these, and that no second answer satisfies a contract.
+pub mod ShapedLaws
 pub mod Tests
 pub mod Laws
 pub mod ShapeLaws

@@ -1,13 +1,10 @@
 -- The journal store as it is lent: its shape, its room, and what it means. Assumes nothing.
 use mathlib.Core.Path.{_≡_}
-use mathlib.Core.Bool.{Bool, true, not, _&&_}
+use mathlib.Core.Bool.{Bool, not, _&&_}
 use mathlib.Core.List.{List}
 use Prim.Native.Nat.{ℕ, _+_, _*_, _/_, _≤_, min}
-use native.Mathlib.Omega.{arith}
 use lib.Dec.{eqb, leb}
-use borrow.Author.Tests.{leb-true, eqb-true, eqb-false, not-true}
 use Rattle.rules.specs.Limits.{mostRecords, mostRows}
-use Rattle.rules.specs.Bools.{and-left, and-right}
 use Rattle.rules.specs.Kinds.{recordBytes}
 use Rattle.rules.specs.Columns.{firstRows}
 use Rattle.rules.specs.Calls.{Store}
@@ -55,24 +52,3 @@ pub record Shaped (h : Head) (keys values bytes : ℕ) : Type 0 where
   pub usedLimit : h .journal .used ≤ mostRecords
   pub used : h .journal .used * recordBytes ≤ bytes
   pub floored : h .floor ≡ 0 → ⊥
-
-pub shape : (h : Head) (keys values bytes : ℕ) → isShaped h keys values bytes ≡ true → Shaped h keys values bytes
-shape h keys values bytes e =
-    let a = leb (h .base .rows) mostRows in
-    let b = leb (h .base .rows) keys in
-    let c = eqb keys values in
-    let d = leb (h .journal .used) mostRecords in
-    let f = leb (h .journal .used) (bytes / recordBytes) in
-    let g = not (eqb (h .floor) 0) in
-    let e1 = and-right a (b && (c && (d && (f && g)))) e in
-    let e2 = and-right b (c && (d && (f && g))) e1 in
-    let e3 = and-right c (d && (f && g)) e2 in
-    let e4 = and-right d (f && g) e3 in
-    record {
-      rowsLimit = leb-true _ _ (and-left a (b && (c && (d && (f && g)))) e);
-      rows = leb-true _ _ (and-left b (c && (d && (f && g))) e1);
-      paired = eqb-true _ _ (and-left c (d && (f && g)) e2);
-      usedLimit = leb-true _ _ (and-left d (f && g) e3);
-      used = let l : h .journal .used ≤ bytes / recordBytes = leb-true _ _ (and-left f g e4) in omega arith;
-      floored = eqb-false _ _ (not-true _ (and-right f g e4));
-    }

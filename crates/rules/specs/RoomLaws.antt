@@ -11,7 +11,7 @@ use Rattle.rules.specs.declared.Record.{Record}
 use Rattle.rules.specs.declared.Effect.the-variants.{Assign, Add}
 use Rattle.rules.specs.Kinds.{isBegin, isEnd, begun, assigned, added, committed, aborted}
 use Rattle.rules.specs.Transactions.{any, of, runs, opens, runningIn, running}
-use Rattle.rules.specs.Calls.{Store, nextOf, Call, Begin, Update, Abort, Commit, recordOf, refusal, need, answer, push}
+use Rattle.rules.specs.Calls.{Store, nextOf, Call, Begin, Update, Abort, Commit, recordOf, refusal, need, answer, push, runningOf}
 use Rattle.rules.specs.Bools.{split, and-left, and-right, not-both, implies-false, or-false}
 use Rattle.rules.specs.Running.{without, not-ended, running-skip, running-end}
 use Rattle.rules.specs.Passed.{passed, fitting}
@@ -70,7 +70,7 @@ running-begun n s rs =
 
 -- a free record for each running transaction
 abbrev pub Roomy : ℕ → Store → Type 0
-Roomy room s = length (s .records) + length (running (s .records)) ≤ room
+Roomy room s = length (s .records) + length (runningOf s) ≤ room
 
 -- a transaction that is not unknown runs
 known-runs : (n : ℕ) (rs : List Record) (others : ℕ) → cond (not (runs n rs)) 2 others ≡ 0 → runs n rs ≡ true

@@ -87,7 +87,7 @@ fn asked(h: Head, keys: &[u32], values: &[u32], bytes: &[u8], call: Call) -> Ans
 }
 
 // The calls that change no base column, and what else is done to a store.
-fn written(h: Head, keys: &[u32], values: &[u32], bytes: &mut [u8], call: Call) -> JournalResult {
+fn recorded(h: Head, keys: &[u32], values: &[u32], bytes: &mut [u8], call: Call) -> JournalResult {
     let word = call.word;
     if word == Call::BEGIN {
         return registers_journal_begin(h, keys, values, bytes, call.a);
@@ -133,7 +133,7 @@ pub(crate) fn turn(
     if call.word == Call::CHECKPOINT {
         return registers_journal_checkpoint(h, keys, values, bytes, call.a);
     }
-    written(h, keys, values, bytes, call)
+    recorded(h, keys, values, bytes, call)
 }
 
 // What came of it: the answer, and a sum of the head and all cells.
