@@ -5,6 +5,8 @@ ghost use lib.Dec.{eqb};
 ghost use Rattle.answer.specs.Reply.{numberOf, placeNumber, begunNumber, ofBegun, ofDone, ofListed};
 use rules::Value;
 
+pub mod shown;
+
 // Why a call was refused, in the order of the numbers.
 pub enum Refusal {
     BadShape,

@@ -1,15 +1,12 @@
--- No second answer satisfies the contract of a public function of this crate: not another answer, head or cell. And an answer loses nothing of its
--- reply. Assumes nothing.
-use mathlib.Core.Path.{_≡_, refl, sym, ap, ap₂, _∙_}
-use mathlib.Core.Bool.{cond}
+-- No second answer satisfies the contract of a public function of this crate: not another answer, head or cell. Assumes nothing.
+use mathlib.Core.Path.{_≡_, sym, ap, ap₂, _∙_}
 use mathlib.Core.List.{List}
 use Prim.Native.Nat.{ℕ}
-use lib.Dec.{eqb}
-use Rattle.rules.specs.declared.Value.{Value}
-use Rattle.rules.specs.declared.Value.the-variants.{Absent, Present}
 use Rattle.rules.specs.declared.Effect.the-variants.{Assign, Add}
 use Rattle.rules.specs.Calls.{Call, Begin, Update, Abort, Commit}
+use Rattle.answer.specs.declared.shown.Answer.{Answer}
 use Rattle.answer.specs.Reply.{Reply}
+use Rattle.answer.specs.Shown.{answerOf}
 use Rattle.journal_store.specs.declared.Head.{Head}
 use Rattle.journal_store.specs.Shape as journal-shape
 use Rattle.journal_store.specs.Contracts.{Wrote, shapedReply, readDecided, lookupDecided, ListedBy, Recovered}
@@ -19,25 +16,12 @@ use Rattle.map_store.specs.declared.MapHead.{MapHead}
 use Rattle.map_store.specs.Shape as map-shape
 use Rattle.map_store.specs.Contracts.{Answered, Committed, readReply, lookupReply, ListedAt}
 use Rattle.map_store.specs.Contracts as map-contracts
-use Rattle.registers.specs.declared.Answer.{Answer}
 use Rattle.registers.specs.declared.JournalResult.{JournalResult}
 use Rattle.registers.specs.declared.MapResult.{MapResult}
 use Rattle.registers.specs.declared.about.Limits.{Limits}
 use Rattle.registers.specs.declared.about.Numbers.{Numbers}
-use Rattle.registers.specs.Answer.{shown, answerOf, Answers, JournalReturns, MapReturns}
+use Rattle.registers.specs.Answer.{Answers, JournalReturns, MapReturns}
 use Rattle.registers.specs.About.{limits, numbers, journalSample, mapSample}
-
--- the reply that an answer tells
-abbrev replyOf : Answer → Reply
-replyOf a = record { number = a .number; value = cond (eqb (a .present) 0) Absent (Present (a .value)) }
-
-told-back : (n : ℕ) (v : Value) → replyOf (shown n v) ≡ record { number = n; value = v }
-told-back n Absent = refl
-told-back n (Present i) = refl
-
--- two replies never have one answer
-pub reply-only : (r s : Reply) → answerOf r ≡ answerOf s → r ≡ s
-reply-only r s e = sym (told-back (r .number) (r .value)) ∙ ap replyOf e ∙ told-back (s .number) (s .value)
 
 -- answers of one reply are one answer
 same : {P Q : Reply → Type 0} {a b : Answer} (p : Answers P a) (q : Answers Q b) → p .reply ≡ q .reply → a ≡ b

@@ -4,9 +4,11 @@ ghost use Rattle.rules.specs.Calls.{Begin, Update, Abort, Commit};
 ghost use Rattle.journal_store.specs.Shape.{emptyHead};
 ghost use Rattle.journal_store.specs.Contracts.{Wrote, readDecided, lookupDecided, shapedReply, ListedBy, Checkpointed, Recovered};
 ghost use Rattle.answer.specs.Reply.{ofBegun, ofDone};
-ghost use Rattle.registers.specs.Answer.{answerOf, Answers, JournalReturns};
-use crate::Answer;
+ghost use Rattle.answer.specs.Shown.{answerOf};
+ghost use Rattle.registers.specs.Answer.{Answers, JournalReturns};
 use crate::JournalResult;
+use answer::shown;
+use answer::shown::Answer;
 use journal_store::Head;
 use journal_store::Outcome;
 use journal_store::Started;
@@ -20,7 +22,7 @@ fn started(o: Started) -> JournalResult
     let answer = o.answer;
     JournalResult {
         head,
-        answer: crate::begun(answer),
+        answer: shown::begun(answer),
     }
 }
 
@@ -32,7 +34,7 @@ fn ended(o: Outcome) -> JournalResult
     let answer = o.answer;
     JournalResult {
         head,
-        answer: crate::done(answer),
+        answer: shown::done(answer),
     }
 }
 
@@ -133,7 +135,7 @@ pub extern "C" fn registers_journal_read(
 ) -> Answer
     ensures { λ r. ⌜ Answers (λ a. a ≡ shapedReply h (now (keys .entry)) (now (values .entry)) (now (journal .entry)) (readDecided transaction key)) r ⌝ }
 {
-    crate::got(journal_store::read::read(h, keys, values, journal, transaction, key))
+    shown::got(journal_store::read::read(h, keys, values, journal, transaction, key))
 }
 
 // The committed value of a key at a time, or absent. Refusals 1, 3, 4, 5.
@@ -148,7 +150,7 @@ pub extern "C" fn registers_journal_lookup(
 ) -> Answer
     ensures { λ r. ⌜ Answers (λ a. a ≡ shapedReply h (now (keys .entry)) (now (values .entry)) (now (journal .entry)) (lookupDecided key time)) r ⌝ }
 {
-    crate::got(journal_store::lookup::lookup(h, keys, values, journal, key, time))
+    shown::got(journal_store::lookup::lookup(h, keys, values, journal, key, time))
 }
 
 // The list at a time, into two lent columns, keys and values; answers the count of rows. Refusals 1, 4, 5, 12.
@@ -164,7 +166,7 @@ pub extern "C" fn registers_journal_list(
 ) -> Answer
     ensures { λ r. ⌜ Answers (λ a. ListedBy h (now (keys .entry)) (now (values .entry)) (now (journal .entry)) time (now (listed .entry)) (now (contents .entry)) a (now (listed .exit)) (now (contents .exit))) r ⌝ }
 {
-    crate::listed(journal_list::list(h, keys, values, journal, time, listed, contents))
+    shown::listed(journal_list::list(h, keys, values, journal, time, listed, contents))
 }
 
 // The base becomes the list at a time, and the journal keeps what is still needed. Refusals 1, 4, 5, 9, 12.

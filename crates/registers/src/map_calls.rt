@@ -5,9 +5,11 @@ ghost use Rattle.versions.specs.Versions.{columns};
 ghost use Rattle.map_store.specs.Shape.{emptyHead};
 ghost use Rattle.map_store.specs.Contracts.{Answered, Committed, readReply, lookupReply, ListedAt, Checkpointed};
 ghost use Rattle.answer.specs.Reply.{ofBegun, ofDone};
-ghost use Rattle.registers.specs.Answer.{answerOf, Answers, MapReturns};
-use crate::Answer;
+ghost use Rattle.answer.specs.Shown.{answerOf};
+ghost use Rattle.registers.specs.Answer.{Answers, MapReturns};
 use crate::MapResult;
+use answer::shown;
+use answer::shown::Answer;
 use map_store::MapHead;
 use map_store::Outcome;
 use map_store::Started;
@@ -21,7 +23,7 @@ fn started(o: Started) -> MapResult
     let answer = o.answer;
     MapResult {
         head,
-        answer: crate::begun(answer),
+        answer: shown::begun(answer),
     }
 }
 
@@ -33,7 +35,7 @@ fn ended(o: Outcome) -> MapResult
     let answer = o.answer;
     MapResult {
         head,
-        answer: crate::done(answer),
+        answer: shown::done(answer),
     }
 }
 
@@ -134,7 +136,7 @@ pub extern "C" fn registers_map_read(
 ) -> Answer
     ensures { λ r. ⌜ Answers (λ a. a ≡ readReply transaction key h (columns (now (keys .entry)) (now (times .entry)) (now (values .entry)))) r ⌝ }
 {
-    crate::got(map_store::read::read(h, keys, times, values, transaction, key))
+    shown::got(map_store::read::read(h, keys, times, values, transaction, key))
 }
 
 // The committed value of a key at a time, or absent. Refusals 1, 3, 4, 5.
@@ -149,7 +151,7 @@ pub extern "C" fn registers_map_lookup(
 ) -> Answer
     ensures { λ r. ⌜ Answers (λ a. a ≡ lookupReply key time h (columns (now (keys .entry)) (now (times .entry)) (now (values .entry)))) r ⌝ }
 {
-    crate::got(map_store::lookup::lookup(h, keys, times, values, key, time))
+    shown::got(map_store::lookup::lookup(h, keys, times, values, key, time))
 }
 
 // The list at a time, into two lent columns, keys and values; answers the count of rows. Refusals 1, 4, 5, 12.
@@ -165,7 +167,7 @@ pub extern "C" fn registers_map_list(
 ) -> Answer
     ensures { λ r. ⌜ Answers (λ a. ListedAt time h (columns (now (keys .entry)) (now (times .entry)) (now (values .entry))) (now (listed .entry)) (now (contents .entry)) a (now (listed .exit)) (now (contents .exit))) r ⌝ }
 {
-    crate::listed(map_list::list(h, keys, times, values, time, listed, contents))
+    shown::listed(map_list::list(h, keys, times, values, time, listed, contents))
 }
 
 // Low becomes a time; kept are the versions after it and, for each key, its newest at or before it. Refusals 1, 4, 5, 9.

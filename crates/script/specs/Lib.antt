@@ -2,7 +2,9 @@
 pub mod Line
 pub mod Play
 pub mod Tally
+pub mod Run
 pub mod Rows
 pub mod Sums
--- That no second answer satisfies a contract.
+-- A law of it, and that no second answer satisfies a contract.
+pub mod RunLaws
 pub mod Unique

@@ -3,6 +3,7 @@
 pub mod line;
 pub mod play;
 pub mod rows;
+pub mod run;
 mod say;
 pub mod sums;
 pub mod tally;

@@ -1,5 +1,6 @@
 // A line of the script, read byte by byte.
 ghost use mathlib.Core.Path.{_≡_};
+ghost use mathlib.Core.Bool.{false};
 ghost use Rattle.script.specs.Line.{blank, spelt, noted, counted, movedTo, closed, taken, callOf, namesStores, lineOf, lineAt};
 use std::num::wrapping_add_u64;
 use std::num::wrapping_add_usize;
@@ -62,6 +63,9 @@ impl Call {
     pub const STORE: u32 = 0x6f7265;
 
     pub const FILL: u32 = 0x696c6c;
+
+    // What a line is answered whose word is no call of the store: no line wants this number.
+    pub const NO_CALL: u32 = 99;
 
     // What a line says of the lines behind it: which are repeated, for which x they are, and for which stores: for the journal store and the map
     // store, for one of the two, or for a journal store with less room or all the room there can be.
@@ -240,8 +244,15 @@ impl Reading {
     }
 }
 
+// A line that says nothing.
+pub(crate) fn empty() -> Line
+    ensures { λ r. ⌜ r ≡ lineOf (blank false) 0 0 ⌝ }
+{
+    Reading::new(false).line(0, 0)
+}
+
 // The line of the script that starts at a place. In it `x` stands for a number.
-pub fn read(script: &[u8], from: usize, x: u64) -> Line
+pub(crate) fn read(script: &[u8], from: usize, x: u64) -> Line
     ensures { λ r. ⌜ r ≡ lineAt (now (script .entry)) from x ⌝ }
 {
     let mut reading = Reading::new(false);

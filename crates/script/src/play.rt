@@ -20,10 +20,7 @@ pub struct Play {
 }
 
 impl Play {
-    // More turns than a script makes.
-    pub const TURNS: u32 = 1000000;
-
-    pub fn new(store: u32) -> Self
+    pub(crate) fn new(store: u32) -> Self
         ensures { λ r. ⌜ r ≡ started store ⌝ }
     {
         Play {
@@ -100,7 +97,7 @@ impl Play {
     }
 
     // After a line: behind it, or at the block's first line again.
-    pub fn after(self, call: Call, end: usize) -> Self
+    pub(crate) fn after(self, call: Call, end: usize) -> Self
         ensures { λ r. ⌜ r ≡ after self call end ⌝ }
     {
         let play = self.moved(end);

@@ -2,7 +2,7 @@
 use crate::line::Call;
 use crate::line::Line;
 use crate::play::Play;
-use crate::tally::Came;
+use answer::shown::Answer;
 use libc::STDOUT_FILENO;
 
 // A text of a store.
@@ -36,11 +36,11 @@ fn numbers(a: u64, b: u64) {
 }
 
 // A line that is answered as it says is written where it has a name, and for the last x; any other always.
-pub(crate) fn answered(script: &[u8], play: Play, asked: Line, came: Came, right: bool) {
+pub(crate) fn answered(script: &[u8], play: Play, asked: Line, answer: Answer, right: bool) {
     if !right {
         line(play.store, script, asked.from, asked.end);
         io::write_all(STDOUT_FILENO, b" DIFFERS, came");
-        numbers(came.number, came.value);
+        numbers(answer.number as u64, answer.value);
         return;
     }
     if asked.named & (play.x >= play.upto) {

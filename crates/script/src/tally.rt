@@ -4,24 +4,8 @@ ghost use Rattle.script.specs.Tally.{isWanted, none, counted, judged};
 use crate::line::Line;
 use crate::play::Play;
 use crate::say;
+use answer::shown::Answer;
 use std::num::wrapping_add_u64;
-
-// What came of a line: the number of section 6, 1 where a value stands beside it, and a sum of the store's cells after it.
-pub struct Came {
-    pub number: u64,
-    pub present: u32,
-    pub value: u64,
-    pub sum: u64,
-}
-
-impl Came {
-    // Whether it is the answer that a line wants.
-    fn is_wanted(self, line: Line) -> bool
-        ensures { λ r. ⌜ r ≡ isWanted self line ⌝ }
-    {
-        (self.number == line.number) & (self.present == line.present) & (self.value == line.value)
-    }
-}
 
 // How many lines went as they must, and how many not; and the sum of the store's cells after the last.
 pub struct Tally {
@@ -31,7 +15,7 @@ pub struct Tally {
 }
 
 impl Tally {
-    pub fn new() -> Self
+    pub(crate) fn new() -> Self
         ensures { λ r. ⌜ r ≡ none ⌝ }
     {
         Tally {
@@ -60,18 +44,34 @@ impl Tally {
     }
 
     // A line is as it must be if the answer is the wanted one and a refused call left the cells as they were.
-    pub fn judged(self, script: &[u8], play: Play, line: Line, came: Came) -> Self
-        ensures { λ r. ⌜ r ≡ judged self line came ⌝ }
+    pub(crate) fn judged(
+        self,
+        script: &[u8],
+        play: Play,
+        line: Line,
+        answer: Answer,
+        sum: u64,
+    ) -> Self
+        ensures { λ r. ⌜ r ≡ judged self line answer sum ⌝ }
     {
-        let right = came.is_wanted(line);
-        let kept = (came.number == 0) | (came.sum == self.sum);
-        say::answered(script, play, line, came, right);
+        let right = is_wanted(answer, line);
+        let kept = (answer.number == 0) | (sum == self.sum);
+        say::answered(script, play, line, answer, right);
         say::kept(script, play, line, kept);
-        self.counted(right & kept, came.sum)
+        self.counted(right & kept, sum)
     }
 
     // The run is over.
-    pub fn ended(self, store: u32) {
+    pub(crate) fn ended(self, store: u32) {
         say::ended(store, self.right, self.wrong);
     }
+}
+
+// Whether an answer is the one that a line wants.
+fn is_wanted(answer: Answer, line: Line) -> bool
+    ensures { λ r. ⌜ r ≡ isWanted answer line ⌝ }
+{
+    (answer.number as u64 == line.number)
+        & (answer.present == line.present)
+        & (answer.value == line.value)
 }

@@ -1,8 +1,8 @@
 // The script's calls on the journal store.
+use answer::shown::Answer;
 use journal::Base;
 use journal::Journal;
 use journal_store::Head;
-use registers::Answer;
 use registers::JournalResult;
 use registers::journal_calls::registers_journal_abort;
 use registers::journal_calls::registers_journal_add;
@@ -17,19 +17,6 @@ use registers::journal_calls::registers_journal_recover;
 use script::line::Call;
 use script::rows;
 use script::sums;
-use script::tally::Came;
-
-// What a line is answered whose word is no call of the store: no line wants this number.
-const NO_CALL: u32 = 99;
-
-// A number alone.
-fn alone(number: u32) -> Answer {
-    Answer {
-        number,
-        present: 0,
-        value: 0,
-    }
-}
 
 // The head as it was.
 fn unchanged(head: Head, answer: Answer) -> JournalResult {
@@ -44,10 +31,10 @@ fn numbered(floor: u32) -> JournalResult {
         base: Base::empty(),
         journal: Journal::empty(),
     };
-    unchanged(head, alone(0))
+    unchanged(head, Answer::alone(0))
 }
 
-// The list at t into so many rows; or one of the rows after it, as a number and a value.
+// The list at t into so many rows, or one of the rows after it.
 fn listed(h: Head, keys: &[u32], values: &[u32], bytes: &[u8], call: Call) -> Answer {
     let lent = rows::lent(call.b);
     let mut listed = [rows::MARK; rows::ROWS];
@@ -61,14 +48,7 @@ fn listed(h: Head, keys: &[u32], values: &[u32], bytes: &[u8], call: Call) -> An
         &mut listed[0..lent],
         &mut contents[0..lent],
     );
-    if call.c == 0 {
-        return answer;
-    }
-    Answer {
-        number: rows::cell(&listed, call.c),
-        present: 1,
-        value: rows::cell(&contents, call.c) as u64,
-    }
+    rows::told(answer, &listed, &contents, call.c)
 }
 
 // The calls that change nothing.
@@ -83,10 +63,27 @@ fn asked(h: Head, keys: &[u32], values: &[u32], bytes: &[u8], call: Call) -> Ans
     if word == Call::LIST {
         return listed(h, keys, values, bytes, call);
     }
-    alone(NO_CALL)
+    Answer::alone(Call::NO_CALL)
 }
 
-// The calls that change no base column, and what else is done to a store.
+// A recovery, what else is done to a store, and the calls that change nothing.
+fn made(h: Head, keys: &[u32], values: &[u32], bytes: &mut [u8], call: Call) -> JournalResult {
+    let word = call.word;
+    if word == Call::RECOVER {
+        return registers_journal_recover(h, keys, values, bytes, call.a as usize);
+    }
+    if word == Call::FILL {
+        let value = (call.v % 256) as u8;
+        sums::fill(bytes, call.a as usize, call.b as usize, value);
+        return unchanged(h, Answer::alone(0));
+    }
+    if word == Call::STORE {
+        return numbered(call.n);
+    }
+    unchanged(h, asked(h, keys, values, bytes, call))
+}
+
+// The calls that write a record, and what else leaves the base as it is.
 fn recorded(h: Head, keys: &[u32], values: &[u32], bytes: &mut [u8], call: Call) -> JournalResult {
     let word = call.word;
     if word == Call::BEGIN {
@@ -104,22 +101,7 @@ fn recorded(h: Head, keys: &[u32], values: &[u32], bytes: &mut [u8], call: Call)
     if word == Call::COMMIT {
         return registers_journal_commit(h, keys, values, bytes, call.n, call.b);
     }
-    if word == Call::RECOVER {
-        return registers_journal_recover(h, keys, values, bytes, call.a as usize);
-    }
-    if word == Call::FILL {
-        sums::fill(
-            bytes,
-            call.a as usize,
-            call.b as usize,
-            (call.v % 256) as u8,
-        );
-        return unchanged(h, alone(0));
-    }
-    if word == Call::STORE {
-        return numbered(call.n);
-    }
-    unchanged(h, asked(h, keys, values, bytes, call))
+    made(h, keys, values, bytes, call)
 }
 
 // What a line asks.
@@ -136,20 +118,13 @@ pub(crate) fn turn(
     recorded(h, keys, values, bytes, call)
 }
 
-// What came of it: the answer, and a sum of the head and all cells.
-pub(crate) fn came(o: JournalResult, keys: &[u32], values: &[u32], bytes: &[u8]) -> Came {
-    let h = o.head;
-    let a = o.answer;
+// A sum of the head and all cells.
+pub(crate) fn sum(h: Head, keys: &[u32], values: &[u32], bytes: &[u8]) -> u64 {
     let head = sums::three(
         h.low,
         h.floor as u64,
         h.base.rows as u64,
         h.journal.used as u64,
     );
-    Came {
-        number: a.number as u64,
-        present: a.present,
-        value: a.value,
-        sum: sums::of_bytes(sums::of_column(sums::of_column(head, keys), values), bytes),
-    }
+    sums::of_bytes(sums::of_column(sums::of_column(head, keys), values), bytes)
 }

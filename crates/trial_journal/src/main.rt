@@ -5,10 +5,8 @@ use journal::Journal;
 use journal_store::Head;
 use libc::STDIN_FILENO;
 use rules::Record;
-use script::line;
 use script::line::Call;
-use script::play::Play;
-use script::tally::Tally;
+use script::run::Run;
 
 mod calls;
 
@@ -23,26 +21,17 @@ const BYTES: usize = Journal::RECORDS * Record::BYTES;
 
 // The script on a journal store.
 fn run(script: &[u8], store: u32, keys: &mut [u32], values: &mut [u32], bytes: &mut [u8]) {
-    let mut play = Play::new(store);
-    let mut tally = Tally::new();
+    let mut run = Run::new(store);
     let mut head = Head::empty();
-    let mut turns = Play::TURNS;
-    while turns > 0 {
-        turns -= 1;
-        let at = play.at;
-        if at >= script.len() {
-            break;
+    while run.goes(script) {
+        run = run.read(script);
+        if run.play.asks {
+            let o = calls::turn(head, keys, values, bytes, run.line.call);
+            head = o.head;
+            run = run.judged(script, o.answer, calls::sum(head, keys, values, bytes));
         }
-        let line = line::read(script, at, play.x);
-        play = play.after(line.call, line.end);
-        if !play.asks {
-            continue;
-        }
-        let o = calls::turn(head, keys, values, bytes, line.call);
-        head = o.head;
-        tally = tally.judged(script, play, line, calls::came(o, keys, values, bytes));
     }
-    tally.ended(store);
+    run.ended();
 }
 
 // The script on a journal store, which is lent so many rows and bytes of its own.

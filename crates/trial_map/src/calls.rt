@@ -1,6 +1,6 @@
 // The script's calls on the map store.
+use answer::shown::Answer;
 use map_store::MapHead;
-use registers::Answer;
 use registers::MapResult;
 use registers::map_calls::registers_map_abort;
 use registers::map_calls::registers_map_add;
@@ -14,18 +14,8 @@ use registers::map_calls::registers_map_read;
 use script::line::Call;
 use script::rows;
 use script::sums;
-use script::tally::Came;
 use slot::Slot;
 use slot::Slots;
-
-// A number alone.
-fn alone(number: u32) -> Answer {
-    Answer {
-        number,
-        present: 0,
-        value: 0,
-    }
-}
 
 // The head as it was.
 fn unchanged(head: MapHead, answer: Answer) -> MapResult {
@@ -41,10 +31,10 @@ fn numbered(next: u32) -> MapResult {
         used: 0,
         slots: Slots::empty(),
     };
-    unchanged(head, alone(0))
+    unchanged(head, Answer::alone(0))
 }
 
-// The list at t into so many rows; or one of the rows after it, as a number and a value.
+// The list at t into so many rows, or one of the rows after it.
 fn listed(h: MapHead, keys: &[u32], times: &[u64], values: &[u32], call: Call) -> Answer {
     let lent = rows::lent(call.b);
     let mut listed = [rows::MARK; rows::ROWS];
@@ -58,18 +48,8 @@ fn listed(h: MapHead, keys: &[u32], times: &[u64], values: &[u32], call: Call) -
         &mut listed[0..lent],
         &mut contents[0..lent],
     );
-    if call.c > 0 {
-        return Answer {
-            number: rows::cell(&listed, call.c),
-            present: 1,
-            value: rows::cell(&contents, call.c) as u64,
-        };
-    }
-    answer
+    rows::told(answer, &listed, &contents, call.c)
 }
-
-// What a line is answered whose word is no call of the store: no line wants this number.
-const NO_CALL: u32 = 99;
 
 // The calls that change nothing.
 fn asked(h: MapHead, keys: &[u32], times: &[u64], values: &[u32], call: Call) -> Answer {
@@ -83,7 +63,7 @@ fn asked(h: MapHead, keys: &[u32], times: &[u64], values: &[u32], call: Call) ->
     if word == Call::LIST {
         return listed(h, keys, times, values, call);
     }
-    alone(NO_CALL)
+    Answer::alone(Call::NO_CALL)
 }
 
 // The calls that change no version, and an empty store.
@@ -145,26 +125,14 @@ fn slots_sum(sum: u64, slots: Slots) -> u64 {
 }
 
 // A sum of the head and all cells.
-fn sum(h: MapHead, keys: &[u32], times: &[u64], values: &[u32]) -> u64 {
+pub(crate) fn sum(
+    h: MapHead,
+    keys: &[u32; rows::ROWS],
+    times: &[u64; rows::ROWS],
+    values: &[u32; rows::ROWS],
+) -> u64 {
     let slots = h.slots;
     let head = sums::three(h.low, h.last, h.next as u64, h.used as u64);
     let columns = sums::of_column(sums::of_times(sums::of_column(head, keys), times), values);
     slots_sum(sums::three(columns, slots.occupied as u64, 0, 0), slots)
-}
-
-// What came of it: the answer, and a sum of the head and all cells.
-pub(crate) fn came(
-    o: MapResult,
-    keys: &[u32; rows::ROWS],
-    times: &[u64; rows::ROWS],
-    values: &[u32; rows::ROWS],
-) -> Came {
-    let h = o.head;
-    let a = o.answer;
-    Came {
-        number: a.number as u64,
-        present: a.present,
-        value: a.value,
-        sum: sum(h, keys, times, values),
-    }
 }

@@ -2,11 +2,9 @@
 // folder; at its top stands what its lines mean.
 use libc::STDIN_FILENO;
 use map_store::MapHead;
-use script::line;
 use script::line::Call;
-use script::play::Play;
 use script::rows;
-use script::tally::Tally;
+use script::run::Run;
 
 mod calls;
 
@@ -18,26 +16,17 @@ fn run(script: &[u8]) {
     let mut keys = [0u32; rows::ROWS];
     let mut times = [0u64; rows::ROWS];
     let mut values = [0u32; rows::ROWS];
-    let mut play = Play::new(Call::MAP);
-    let mut tally = Tally::new();
+    let mut run = Run::new(Call::MAP);
     let mut head = MapHead::empty();
-    let mut turns = Play::TURNS;
-    while turns > 0 {
-        let at = play.at;
-        if at >= script.len() {
-            break;
+    while run.goes(script) {
+        run = run.read(script);
+        if run.play.asks {
+            let o = calls::turn(head, &mut keys, &mut times, &mut values, run.line.call);
+            head = o.head;
+            run = run.judged(script, o.answer, calls::sum(head, &keys, &times, &values));
         }
-        turns -= 1;
-        let line = line::read(script, at, play.x);
-        play = play.after(line.call, line.end);
-        if !play.asks {
-            continue;
-        }
-        let o = calls::turn(head, &mut keys, &mut times, &mut values, line.call);
-        head = o.head;
-        tally = tally.judged(script, play, line, calls::came(o, &keys, &times, &values));
     }
-    tally.ended(Call::MAP);
+    run.ended();
 }
 
 fn main() {

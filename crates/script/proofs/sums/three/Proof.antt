@@ -4,7 +4,7 @@ use Rattle.script.proofs.sums.three.Statement.{statement}
 use Rattle.script.proofs.sums.three.Tie as tie
 
 returns : tie.Need-returns
-returns c = cc
+returns c = rw (c .more3 .ensures, c .before .more2 .ensures, c .before .before .more .ensures)
 
 pub three-spec : {M : Type 1} → statement M
 three-spec = tie.close (tie.spec (λ c κs. search needs) (λ c κs. search needs) (λ c κs. search needs) returns)

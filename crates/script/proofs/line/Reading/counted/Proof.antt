@@ -4,7 +4,7 @@ use Rattle.script.proofs.line.Reading.counted.Statement.{statement}
 use Rattle.script.proofs.line.Reading.counted.Tie as tie
 
 returns : tie.Need-returns
-returns c = cc
+returns c = rw (c .noted .ensures, c .before .wrapping-add-u64 .ensures)
 
 pub counted-spec : {M : Type 1} → statement M
 counted-spec =

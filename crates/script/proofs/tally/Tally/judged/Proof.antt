@@ -4,7 +4,7 @@ use Rattle.script.proofs.tally.Tally.judged.Statement.{statement}
 use Rattle.script.proofs.tally.Tally.judged.Tie as tie
 
 returns : tie.Need-returns
-returns c = cc
+returns c = rw (c .counted .ensures, c .before .before .before .before .before .is-wanted .ensures)
 
 pub judged-spec : {M : Type 1} → statement M
 judged-spec =

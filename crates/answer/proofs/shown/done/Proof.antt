@@ -1,11 +1,11 @@
--- `registers::done` meets its contract: nothing but the number. Assumes nothing.
+-- `answer::shown::done` meets its contract: nothing but the number. Assumes nothing.
 use mathlib.Core.Path.{_≡_, sym, ap, _∙_}
 use Rattle.answer.specs.declared.Done.{Done}
 use Rattle.answer.specs.Reply.{ofDone}
-use Rattle.registers.specs.Answer.{answerOf}
+use Rattle.answer.specs.Shown.{answerOf}
 use borrow.Author.Needs.{needs}
-use Rattle.registers.proofs.done.Statement.{statement}
-use Rattle.registers.proofs.done.Tie as tie
+use Rattle.answer.proofs.shown.done.Statement.{statement}
+use Rattle.answer.proofs.shown.done.Tie as tie
 
 returns : tie.Need-returns
 returns c = c .alone .ensures ∙ sym (ap (λ (y : Done). answerOf (ofDone y)) (c .before .enum-told .given .1))

@@ -1,11 +1,11 @@
--- `registers::begun` meets its contract: the number, or the refusal. Assumes nothing.
+-- `answer::shown::begun` meets its contract: the number, or the refusal. Assumes nothing.
 use mathlib.Core.Path.{_≡_, sym, ap, _∙_}
 use Rattle.answer.specs.declared.Begun.{Begun}
 use Rattle.answer.specs.Reply.{ofBegun}
-use Rattle.registers.specs.Answer.{answerOf}
+use Rattle.answer.specs.Shown.{answerOf}
 use borrow.Author.Needs.{needs}
-use Rattle.registers.proofs.begun.Statement.{statement}
-use Rattle.registers.proofs.begun.Tie as tie
+use Rattle.answer.proofs.shown.begun.Statement.{statement}
+use Rattle.answer.proofs.shown.begun.Tie as tie
 
 returns : tie.Need-returns
 returns c = c .beside .ensures ∙ sym (ap (λ (y : Begun). answerOf (ofBegun y)) (c .before .before .a .given .1))

@@ -1,12 +1,12 @@
--- `registers::got` meets its contract: the value, absent, or the refusal. Assumes nothing.
+-- `answer::shown::got` meets its contract: the value, absent, or the refusal. Assumes nothing.
 use mathlib.Core.Path.{_≡_, sym, ap, _∙_}
 use Rattle.rules.specs.declared.Value.{Value}
 use Rattle.answer.specs.declared.Got.{Got}
 use Rattle.answer.specs.Reply.{accepted, ofGot}
-use Rattle.registers.specs.Answer.{answerOf}
+use Rattle.answer.specs.Shown.{answerOf}
 use borrow.Author.Needs.{needs}
-use Rattle.registers.proofs.got.Statement.{statement}
-use Rattle.registers.proofs.got.Tie as tie
+use Rattle.answer.proofs.shown.got.Statement.{statement}
+use Rattle.answer.proofs.shown.got.Tie as tie
 
 returns : tie.Need-returns
 returns c =

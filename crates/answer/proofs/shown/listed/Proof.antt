@@ -1,11 +1,11 @@
--- `registers::listed` meets its contract: the count, or the refusal. Assumes nothing.
+-- `answer::shown::listed` meets its contract: the count, or the refusal. Assumes nothing.
 use mathlib.Core.Path.{_≡_, sym, ap, _∙_}
 use Rattle.answer.specs.declared.Listed.{Listed}
 use Rattle.answer.specs.Reply.{ofListed}
-use Rattle.registers.specs.Answer.{answerOf}
+use Rattle.answer.specs.Shown.{answerOf}
 use borrow.Author.Needs.{needs}
-use Rattle.registers.proofs.listed.Statement.{statement}
-use Rattle.registers.proofs.listed.Tie as tie
+use Rattle.answer.proofs.shown.listed.Statement.{statement}
+use Rattle.answer.proofs.shown.listed.Tie as tie
 
 returns : tie.Need-returns
 returns c = c .beside .ensures ∙ sym (ap (λ (y : Listed). answerOf (ofListed y)) (c .before .before .a .given .1))

@@ -1,19 +1,19 @@
--- `registers::refused` meets its contract: 13 alone has a place. Assumes nothing.
+-- `answer::shown::refused` meets its contract: 13 alone has a place. Assumes nothing.
 use mathlib.Core.Path.{_≡_, refl, sym, ap, _∙_}
 use mathlib.Core.List.{List, [], _∷_}
 use Prim.Native.Nat.{ℕ}
 use denote.Enum.Declared.{tagOf}
 use types.Run.{OneOf, miss}
 use Rattle.rules.specs.declared.Value.the-variants.{Absent, Present}
 use Rattle.answer.proofs.Refusal.{the-type}
 use Rattle.answer.specs.declared.Refusal.{Refusal}
 use Rattle.answer.specs.declared.Refusal.the-variants.{BadShape, UnknownTransaction, BadKey, TooOld, Future, TooMany, NoNumbers, KeysFull, Held, NotLater, Conflict, NoRoom, BadRecord}
 use Rattle.answer.specs.Reply.{numberOf, placeOf, refused}
-use Rattle.registers.specs.declared.Answer.{Answer}
-use Rattle.registers.specs.Answer.{shown, answerOf}
+use Rattle.answer.specs.declared.shown.Answer.{Answer}
+use Rattle.answer.specs.Shown.{shown, answerOf}
 use borrow.Author.Needs.{needs}
-use Rattle.registers.proofs.refused.Statement.{statement}
-use Rattle.registers.proofs.refused.Tie as tie
+use Rattle.answer.proofs.shown.refused.Statement.{statement}
+use Rattle.answer.proofs.shown.refused.Tie as tie
 
 -- the first twelve refusals
 abbrev twelve : List ℕ
