@@ -22,7 +22,7 @@ use Rattle.record.specs.Laid.{laid, AllFit, none, more, length-laid, records-la
 use Rattle.journal.specs.Gathered.{lates, Gathered}
 use Rattle.journal.specs.GatheredLaws.{running-held, late-held}
 use Rattle.journal.specs.Past.{low-last}
-use Rattle.walk.specs.Judged.{judged}
+use Rattle.compact.specs.Judged.{judged}
 use Rattle.compact.specs.Compact.{keptIn, sifted, zeroed, compacted, Moved, Compacted}
 
 -- tests that agree on every record sift alike

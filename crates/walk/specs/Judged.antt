@@ -1,6 +1,6 @@
--- What an accepted record passed, and what the walk finds. Assumes nothing.
+-- What the walk finds. Assumes nothing.
 use mathlib.Core.Path.{_≡_, refl}
-use mathlib.Core.Bool.{true, false, cond, _&&_}
+use mathlib.Core.Bool.{true, false, cond}
 use mathlib.Core.List.{List, [], _∷_}
 use Prim.Native.Nat.{ℕ, zero, suc, _≤_}
 use native.Mathlib.Omega.{arith}
@@ -11,29 +11,8 @@ use Rattle.rules.specs.declared.Record.{Record}
 use Rattle.rules.specs.declared.Walked.{Walked}
 use Rattle.rules.specs.declared.Walked.the-variants.{Whole, BadAt}
 use Rattle.rules.specs.Bools.{split, and-left, and-right}
-use Rattle.rules.specs.Recovery.{formed as formedIn, numbered as numberedIn, timely as timelyIn, limited as limitedIn, clear as clearIn, judge, accepts, firstBad, walk}
+use Rattle.rules.specs.Recovery.{judge, accepts, firstBad, walk}
 use Rattle.record.specs.Bytes.{recordsIn}
-
--- every test of section 5
-pub record Judged (low : ℕ) (older : List Record) (r : Record) : Type 0 where
-  pub formed : formedIn r ≡ true
-  pub numbered : numberedIn older r ≡ true
-  pub timely : timelyIn low older r ≡ true
-  pub limited : limitedIn older r ≡ true
-  pub clear : clearIn older r ≡ true
-
-pub judged : (low : ℕ) (older : List Record) (r : Record) → judge low older r ≡ true → Judged low older r
-judged low older r h =
-    let b = and-right (formedIn r) (numberedIn older r && (timelyIn low older r && (limitedIn older r && clearIn older r))) h in
-    let c = and-right (numberedIn older r) (timelyIn low older r && (limitedIn older r && clearIn older r)) b in
-    let d = and-right (timelyIn low older r) (limitedIn older r && clearIn older r) c in
-    record {
-      formed = and-left (formedIn r) (numberedIn older r && (timelyIn low older r && (limitedIn older r && clearIn older r))) h;
-      numbered = and-left (numberedIn older r) (timelyIn low older r && (limitedIn older r && clearIn older r)) b;
-      timely = and-left (timelyIn low older r) (limitedIn older r && clearIn older r) c;
-      limited = and-left (limitedIn older r) (clearIn older r) d;
-      clear = and-right (limitedIn older r) (clearIn older r) d;
-    }
 
 -- an accepted record leaves what the walk found
 pub walk-more : (low : ℕ) (r : Record) (older : List Record) → judge low older r ≡ true → walk low older ≡ Whole → walk low (r ∷ older) ≡ Whole

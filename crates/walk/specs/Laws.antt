@@ -20,9 +20,9 @@ use Rattle.rules.specs.Times.{last, above}
 use Rattle.rules.specs.Running.{without, running-skip, running-end, running-runs, below}
 use Rattle.rules.specs.Recovery.{numbered, timely, limited, judge}
 use Rattle.journal.specs.Past.{Past, past-last}
-use Rattle.walk.specs.declared.State.{State}
+use Rattle.compact.specs.Judged.{judged}
 use Rattle.column.specs.AmongLaws.{among-end}
-use Rattle.walk.specs.Judged.{judged}
+use Rattle.walk.specs.declared.State.{State}
 use Rattle.walk.specs.Walk.{started, pushed, latest, Held, Room, Without, Open, Tracks, numberedBy, timelyBy}
 
 -- the rows of a column, the latest first
