@@ -17,7 +17,7 @@ use Rattle.history.specs.Refusals.{lastIn}
 use Rattle.history.specs.Course.{Course, lose, recovered}
 use Rattle.history.specs.Listed.{history-lists}
 use Rattle.history.specs.Recovered.{survivors-none}
-use Rattle.history.specs.Replayed.{whole}
+use Rattle.history.specs.Replayed.{whole, whole-base}
 use Rattle.history.specs.Told.{value-told, last-told}
 use Rattle.history.specs.Whole.{tells, read-told}
 use Rattle.history.specs.Tied.{Tied, tied-restart, now, low-now, from-now, value-now, next-above}
@@ -56,7 +56,7 @@ module _ (y : Course) (h : Tied y) where
       let v : runs n b ≡ true = sym (now y h .run n) ∙ u in
       let o : of n (y .store .records) ≡ of n b = now y h .own n u in
       let l : y .store .low ≤ snapshot n b = rw o at (from-now y h n u) in
-      rw (o, value-now y h k (snapshot n b) i l) (read-told (h .lawful) n k v)
+      rw (o, value-now y h k (snapshot n b) i l) (rw (whole-base (y .deeds)) at (read-told (h .lawful) n k v))
 
 -- aborts change no committed transaction, and not low
 aborting-commitments : (ns : List ℕ) (ds : List Deed) → history (aborting ns ds) .commitments ≡ history ds .commitments

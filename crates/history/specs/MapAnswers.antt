@@ -10,10 +10,9 @@ use Rattle.rules.specs.declared.Record.{Record}
 use Rattle.rules.specs.declared.Effect.{Effect}
 use Rattle.rules.specs.Kinds.{isUpdate}
 use Rattle.rules.specs.Transactions.{any, of, wrote, keysWritten}
-use Rattle.rules.specs.Values.{readIn}
 use Rattle.rules.specs.Lists.{among}
 use Rattle.rules.specs.Conflicts.{touched}
-use Rattle.rules.specs.Calls.{Store, nextOf, runsIn, snapshotIn, heldIn, mayWriteIn, conflictIn, updated, Begin, Update, Abort, Commit, refusal}
+use Rattle.rules.specs.Calls.{Store, nextOf, runsIn, snapshotIn, readOf, heldIn, mayWriteIn, conflictIn, updated, Begin, Update, Abort, Commit, refusal}
 use Rattle.rules.specs.Bools.{split, or-right, not-both}
 use Rattle.slot.specs.RowLaws.{length-keys}
 use Rattle.rules.specs.Running.{wrote-among}
@@ -26,7 +25,7 @@ use Rattle.history.specs.Refusals.{anyOf}
 use Rattle.history.specs.KeptAlike.{not-held}
 use Rattle.history.specs.RefusedAlike.{hold-none}
 use Rattle.history.specs.GoodLaws.{above-top, fresh, begun-of, snapshot-within}
-use Rattle.history.specs.Replayed.{replayed, whole}
+use Rattle.history.specs.Replayed.{replayed, whole, whole-base}
 use Rattle.history.specs.Allowed.{refused, Allowed, may-begin, may-update, may-abort, may-commit, may-checkpoint}
 use Rattle.history.specs.Written.{writing}
 use Rattle.history.specs.Lawful.{Lawful, start, went}
@@ -172,10 +171,11 @@ agree (went {d = d} {ds = ds} l e) = agree-deed (mapped ds) (whole ds) (agree l)
 
 -- a read in the map is a read in the whole journal
 pub map-read : {ds : List Deed} → Lawful ds → (n k : ℕ) → runsIn n (whole ds) ≡ true → 1 ≤ k
-    → map.readIn n k (mapped ds) ≡ readIn [] (whole ds .records) n (snapshotIn n (whole ds)) k
+    → map.readIn n k (mapped ds) ≡ readOf n k (whole ds)
 map-read {ds} l n k u i = go (placeOf n (mapped ds .places)) (agree l .says n)
   where
-    go : (p : Place) → Says (whole ds .records) n p → readAt k p (mapped ds .versions) ≡ readIn [] (whole ds .records) n (snapshotIn n (whole ds)) k
+    go : (p : Place) → Says (whole ds .records) n p → readAt k p (mapped ds .versions) ≡ readOf n k (whole ds)
     go p (idle x) = not-both (runsIn n (whole ds)) u x
     go p (busy s rows x v keys w) =
-        current-is (mapped ds) (whole ds .low) (whole ds .records) (agree l) (sane (whole ds) (sound l)) n k s rows i x v keys (w k i)
+        rw (whole-base ds)
+        (current-is (mapped ds) (whole ds .low) (whole ds .records) (agree l) (sane (whole ds) (sound l)) n k s rows i x v keys (w k i))

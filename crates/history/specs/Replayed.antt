@@ -20,3 +20,9 @@ pub whole-floor : (ds : List Deed) → whole ds .floor ≡ 1
 whole-floor [] = refl
 whole-floor (Did c ∷ ds) = whole-floor ds
 whole-floor (Checkpointed t ∷ ds) = whole-floor ds
+
+-- its base stays empty
+pub whole-base : (ds : List Deed) → whole ds .base ≡ []
+whole-base [] = refl
+whole-base (Did c ∷ ds) = whole-base ds
+whole-base (Checkpointed t ∷ ds) = whole-base ds

@@ -7,15 +7,14 @@ use Prim.Native.Nat.{ℕ}
 use native.Mathlib.Omega.{arith}
 use Rattle.rules.specs.declared.Record.{Record}
 use Rattle.rules.specs.Transactions.{of, snapshot}
-use Rattle.rules.specs.Values.{readIn}
 use Rattle.rules.specs.Lists.{among}
-use Rattle.rules.specs.Calls.{runsIn, snapshotIn, Abort}
+use Rattle.rules.specs.Calls.{runsIn, readOf, Abort}
 use Rattle.rules.specs.Bools.{split}
 use Rattle.history.specs.History.{Deed, Did, numbers, history, aborting, valueIn, reads}
 use Rattle.history.specs.Refusals.{refusalIn}
 use Rattle.history.specs.Good.{none}
 use Rattle.history.specs.RecoveredAlike.{endAll}
-use Rattle.history.specs.Replayed.{whole}
+use Rattle.history.specs.Replayed.{whole, whole-base}
 use Rattle.history.specs.Allowed.{refused, Allowed, allowed}
 use Rattle.history.specs.Lawful.{Lawful, start, went}
 use Rattle.history.specs.Sound.{Sound, sound-deed}
@@ -60,11 +59,11 @@ pub lawful-allowed : {ds : List Deed} → Lawful ds → {d : Deed} → refusalIn
 lawful-allowed {ds} l {d} e = allowed (whole ds) d (whole-refuses l d ∙ e)
 
 -- a read in the whole journal is a read in the history
-pub read-told : {ds : List Deed} → Lawful ds → (n k : ℕ) → runsIn n (whole ds) ≡ true → readIn [] (whole ds .records) n (snapshotIn n (whole ds)) k ≡ reads (history ds) n k
+pub read-told : {ds : List Deed} → Lawful ds → (n k : ℕ) → runsIn n (whole ds) ≡ true → readOf n k (whole ds) ≡ reads (history ds) n k
 read-told {ds} l n k u =
     let b : List Record = whole ds .records in
     let t = tells l in
-    rw (t .own n u, t .snaps n u, t .commits, value-told k (snapshot n b) b)
+    rw (whole-base ds, t .own n u, t .snaps n u, t .commits, value-told k (snapshot n b) b)
     (making-effects k (of n b) (valueIn (commitmentsIn b) (snapshot n b) k))
 
 -- the aborts of a restart, in the history and in the whole journal
