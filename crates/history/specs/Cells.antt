@@ -15,9 +15,8 @@ use Rattle.rules.specs.Calls.{Store, Call}
 use Rattle.record.specs.Bytes.{Bytes}
 use Rattle.answer.specs.Reply.{Reply, told, after}
 use Rattle.journal_store.specs.declared.Head.{Head}
-use Rattle.journal_store.specs.Shape.{emptyHead, isShaped, meaning}
+use Rattle.journal_store.specs.Shape.{emptyHead, isShaped, meaning, SizedCall}
 use Rattle.journal_store.specs.Contracts.{Wrote, isRecoverable, Recovered}
-use Rattle.journal_store.specs.Tie.{SizedCall}
 use Rattle.history.specs.History.{Commitment, Deed, Did, Checkpointed, restarted, valueIn, writtenBy}
 use Rattle.journal_store.specs.Contracts as checkpoint
 

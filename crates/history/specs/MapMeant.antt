@@ -23,7 +23,8 @@ use Rattle.map_store.specs.Meaning.{MapStore, mapRefusal, mapAnswer, mapAfter}
 use Rattle.map_store.specs.Shape.{Lengths, lengths, isShaped, Shaped, roomOf, meaning}
 use Rattle.map_store.specs.Contracts.{shapedNumber, number}
 use Rattle.map_store.specs.Laws.{number-bad, number-good}
-use Rattle.map_store.specs.MeaningLaws.{shape-passes, empty-shaped, empty-meaning, begin-meaning, begin-shaped, update-meaning, update-shaped, abort-meaning, abort-shaped, commit-meaning, commit-shaped, checkpoint-meaning, checkpoint-shaped}
+use Rattle.map_store.specs.ShapeLaws.{shape-passes, empty-shaped}
+use Rattle.map_store.specs.MeaningLaws.{empty-meaning, begin-meaning, begin-shaped, update-meaning, update-shaped, abort-meaning, abort-shaped, commit-meaning, commit-shaped, checkpoint-meaning, checkpoint-shaped}
 use Rattle.history.specs.History.{Deed, Did, Checkpointed}
 use Rattle.history.specs.Lawful.{Lawful, start, went}
 use Rattle.history.specs.MapMeanings.{map-refuses}

@@ -15,7 +15,8 @@ use Rattle.answer.specs.Reply.{Reply, accepted, told, after}
 use Rattle.slot.specs.Slots.{slotOf, firstSlot, lowestFree}
 use Rattle.slot.specs.Places.{placesOf}
 use Rattle.versions.specs.Versions.{columns, versionsOf}
-use Rattle.journal_store.specs.Shape.{emptyHead, grown}
+use Rattle.journal_store.specs.Shape.{emptyHead}
+use Rattle.journal_store.specs.Heads.{grown}
 use Rattle.journal_store.specs.Contracts.{number, Wrote, lookupDecided, shapedReply}
 use Rattle.map_store.specs.Heads.{headAfter, rowsIn, stamped}
 use Rattle.map_store.specs.Contracts.{Answered, Committed, lookupReply}

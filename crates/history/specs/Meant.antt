@@ -27,12 +27,12 @@ use Rattle.record.specs.Laws.{records-front, length-records, drop-records}
 use Rattle.answer.specs.Reply.{Reply, after}
 use Rattle.compact.specs.Compact.{compacted}
 use Rattle.journal_store.specs.declared.Head.{Head}
-use Rattle.journal_store.specs.Shape.{grown, isShaped, Shaped, roomOf, rowRoom, meaning}
-use Rattle.journal_store.specs.ShapedLaws.{shape}
-use Rattle.journal_store.specs.Contracts.{Wrote, number, checkpointHead, checkpointNumber, risingKeys, journalBytes, isRecoverable, surviving, recoverReply, recoveredHead, Recoverable, Recovered}
+use Rattle.journal_store.specs.Shape.{isShaped, Shaped, roomOf, rowRoom, meaning, SizedCall}
+use Rattle.journal_store.specs.Heads.{grown, checkpointHead, recoveredHead}
+use Rattle.journal_store.specs.Contracts.{Wrote, number, checkpointNumber, risingKeys, journalBytes, isRecoverable, surviving, recoverReply, Recoverable, Recovered}
 use Rattle.journal_store.specs.Laws.{room-left, need-some, recoverable}
-use Rattle.journal_store.specs.Tie.{SizedCall, fit-call, push-meaning, checkpoint-meaning, recover-meaning}
-use Rattle.journal_store.specs.ShapeLaws.{call-shaped, checkpoint-shaped, recover-shaped}
+use Rattle.journal_store.specs.ShapeLaws.{shape}
+use Rattle.journal_store.specs.MeaningLaws.{fit-call, push-meaning, call-shaped, checkpoint-meaning, checkpoint-shaped, recover-meaning, recover-shaped}
 use Rattle.history.specs.History.{Deed, Did, Checkpointed, restarted}
 use Rattle.history.specs.Course.{Course, lose, recovered}
 use Rattle.history.specs.Tied.{Tied, tied-restart, tied-call, tied-checkpoint, tied-start}

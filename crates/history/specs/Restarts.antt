@@ -28,9 +28,10 @@ use Rattle.answer.specs.Reply.{Reply, accepted, told, after}
 use Rattle.compact.specs.Compact.{compacted}
 use Rattle.walk.specs.Judged.{whole-walk}
 use Rattle.journal_store.specs.declared.Head.{Head}
-use Rattle.journal_store.specs.Contracts.{lookupDecided, shapedReply, ListedBy, risingKeys, journalBytes, isRecoverable, surviving, walkedReply, recoverReply, recoveredHead, Recovered}
+use Rattle.journal_store.specs.Heads.{recoveredHead}
+use Rattle.journal_store.specs.Contracts.{lookupDecided, shapedReply, ListedBy, risingKeys, journalBytes, isRecoverable, surviving, walkedReply, recoverReply, Recovered}
 use Rattle.journal_store.specs.Laws.{recoverable}
-use Rattle.journal_store.specs.Tie.{recover-meaning}
+use Rattle.journal_store.specs.MeaningLaws.{recover-meaning}
 use Rattle.history.specs.History.{Deed, numbers, history, restarted, valueIn, listIn}
 use Rattle.history.specs.Refusals.{timeRefused, lookupNumber}
 use Rattle.history.specs.Judged.{good-accepts}

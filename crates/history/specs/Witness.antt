@@ -18,7 +18,7 @@ use Rattle.slot.specs.Slots.{firstSlot, lowestFree}
 use Rattle.slot.specs.Places.{placesOf}
 use Rattle.versions.specs.Versions.{columns}
 use Rattle.journal_store.specs.Contracts.{ListedBy}
-use Rattle.journal_store.specs.Tie.{SizedCall}
+use Rattle.journal_store.specs.Shape.{SizedCall}
 use Rattle.map_store.specs.Contracts.{ListedAt}
 use Rattle.history.specs.History.{Deed, Did, Checkpointed}
 use Rattle.history.specs.Cells.{Cells, Reached, start, called, checkpointed, recovered}

@@ -2,12 +2,12 @@
 use mathlib.Core.Path.{_≡_}
 use mathlib.Core.Bool.{Bool, true, cond, _&&_, not}
 use mathlib.Core.List.{List, _++_, [], _∷_}
-use Prim.Native.Nat.{ℕ, _+_, _*_, _≤_, _/_, _<_}
+use Prim.Native.Nat.{ℕ, _*_, _≤_, _/_, _<_}
 use lib.Dec.{eqb, ltb, leb}
 use lib.ListN.{length, drop, take}
 use Rattle.rules.specs.declared.Record.{Record}
 use Rattle.rules.specs.Kinds.{recordBytes}
-use Rattle.rules.specs.Calls.{Store, Call, answer, recordOf, gives, valueOf, readOf, readRefusal, lookupRefusal, listOf, listAnswer, nextOf, checkpointAnswer}
+use Rattle.rules.specs.Calls.{Store, Call, answer, recordOf, gives, valueOf, readOf, readRefusal, lookupRefusal, listOf, listAnswer, checkpointAnswer}
 use Rattle.rules.specs.declared.Value.the-variants.{Absent, Present}
 use Rattle.rules.specs.Lists.{rowKeys}
 use Rattle.rules.specs.Columns.{rowValues, Filled}
@@ -16,13 +16,13 @@ use Rattle.rules.specs.Values.{Row}
 use Rattle.rules.specs.Limits.{mostRecords, mostRows}
 use Rattle.rules.specs.declared.Walked.{Walked}
 use Rattle.rules.specs.declared.Walked.the-variants.{Whole, BadAt}
-use Rattle.rules.specs.Times.{next}
 use Rattle.rules.specs.Recovery.{walk, survivors}
 use Rattle.record.specs.Bytes.{appended, recordsIn}
 use Rattle.answer.specs.Reply.{Reply, told, after, accepted}
 use Rattle.compact.specs.Compact.{compacted}
 use Rattle.journal_store.specs.declared.Head.{Head}
-use Rattle.journal_store.specs.Shape.{grown, isShaped, roomOf, meaning, rowRoom}
+use Rattle.journal_store.specs.Shape.{isShaped, roomOf, meaning, rowRoom}
+use Rattle.journal_store.specs.Heads.{grown, checkpointHead, recoveredHead}
 
 -- an accepted record is written behind the used ones and counted; otherwise nothing changes
 pub record Put (h : Head) (j : List ℕ) (accepted : Bool) (r : Record) (head : Head) (exit : List ℕ) : Type 0 where
@@ -87,16 +87,6 @@ abbrev pub checkpointNumber : ℕ → Head → List ℕ → List ℕ → List �
 checkpointNumber t h keys values j =
     cond (isShaped h (length keys) (length values) (length j)) (checkpointAnswer (rowRoom (length keys)) t (meaning h keys values j)) 1
 
--- low becomes T, floor the next number, the base has the rows of the list and the journal the records kept
-abbrev pub checkpointHead : ℕ → Store → Head
-checkpointHead t s =
-    record {
-      low = t;
-      floor = nextOf s;
-      base = record { rows = length (listOf t s) };
-      journal = record { used = length (kept t (s .records)) };
-    }
-
 -- where the call is accepted: the head, the rows of the list at the front of the base, the records kept at the front of the journal and zeros to
 -- the end of those that were used; where it is refused: all as it was
 pub record Checkpointed (t : ℕ) (h : Head) (keys values j : List ℕ) (a : Reply) (head : Head) (keys' values' exit : List ℕ) : Type 0 where
@@ -150,16 +140,6 @@ walkedReply (BadAt i) = record { number = 13; value = Present i }
 abbrev pub recoverReply : Head → List ℕ → List ℕ → List ℕ → ℕ → Reply
 recoverReply h keys values j survived =
     cond (isRecoverable h keys (length values) (length j) survived) (walkedReply (walk (h .low) (surviving survived j))) (record { number = 1; value = Absent })
-
--- floor is the next number before dropping, used the count of the records that are left
-abbrev pub recoveredHead : Head → List Record → Head
-recoveredHead h rs =
-    record {
-      low = h .low;
-      floor = next (h .floor) rs;
-      base = h .base;
-      journal = record { used = length (survivors rs) };
-    }
 
 -- where the call is accepted: the head, and the records of transactions with a commit at the front of the journal, zeros to the end of what
 -- survived; where it is refused: all as it was

@@ -17,7 +17,7 @@ use Rattle.rules.specs.declared.Value.{Value}
 use Rattle.rules.specs.declared.Value.the-variants.{Absent, Present}
 use Rattle.rules.specs.Lists.{rowKeys}
 use Rattle.rules.specs.Columns.{rowValues, Filled}
-use Rattle.rules.specs.Checkpoints.{held, kept}
+use Rattle.rules.specs.Checkpoints.{kept}
 use Rattle.rules.specs.Limits.{mostRecords, mostRows}
 use Rattle.rules.specs.declared.Walked.{Walked}
 use Rattle.rules.specs.declared.Walked.the-variants.{Whole, BadAt}
@@ -30,9 +30,10 @@ use Rattle.answer.specs.Laws.{after-refused, refused-some}
 use Rattle.answer.specs.declared.Refusal.{Refusal}
 use Rattle.compact.specs.Compact.{compacted}
 use Rattle.journal_store.specs.declared.Head.{Head}
-use Rattle.journal_store.specs.Shape.{grown, isShaped, roomOf, meaning, Shaped, rowRoom}
-use Rattle.journal_store.specs.ShapedLaws.{shape}
-use Rattle.journal_store.specs.Contracts.{Put, decided, number, Wrote, readDecided, lookupDecided, shapedReply, listDecided, isListShaped, listNumber, ListedBy, checkpointNumber, checkpointHead, Checkpointed, risingKeys, journalBytes, isRecoverable, surviving, recoverReply, recoveredHead, Recovered, Recoverable}
+use Rattle.journal_store.specs.Shape.{isShaped, roomOf, meaning, Shaped, rowRoom}
+use Rattle.journal_store.specs.Heads.{grown, checkpointHead, recoveredHead}
+use Rattle.journal_store.specs.ShapeLaws.{shape}
+use Rattle.journal_store.specs.Contracts.{Put, decided, number, Wrote, readDecided, lookupDecided, shapedReply, listDecided, isListShaped, listNumber, ListedBy, checkpointNumber, Checkpointed, risingKeys, journalBytes, isRecoverable, surviving, recoverReply, Recovered, Recoverable}
 
 -- an accepted call has the room that it needs
 pub room-left : (room : ℕ) (c : Call) (s : Store) → answer room c s ≡ 0 → length (s .records) + need c s ≤ room

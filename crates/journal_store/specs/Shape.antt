@@ -1,13 +1,15 @@
--- The journal store as it is lent: its shape, its room, and what it means. Assumes nothing.
+-- The journal store as it is lent: its shape, its room, what it means, and the numbers that a call is given. Assumes nothing.
 use mathlib.Core.Path.{_≡_}
 use mathlib.Core.Bool.{Bool, not, _&&_}
 use mathlib.Core.List.{List}
-use Prim.Native.Nat.{ℕ, _+_, _*_, _/_, _≤_, min}
+use Prim.Native.Nat.{ℕ, _*_, _/_, _^_, _<_, _≤_, min}
 use lib.Dec.{eqb, leb}
+use Rattle.rules.specs.declared.Effect.{Effect}
+use Rattle.rules.specs.declared.Effect.the-variants.{Assign, Add}
 use Rattle.rules.specs.Limits.{mostRecords, mostRows}
 use Rattle.rules.specs.Kinds.{recordBytes}
 use Rattle.rules.specs.Columns.{firstRows}
-use Rattle.rules.specs.Calls.{Store}
+use Rattle.rules.specs.Calls.{Store, Call, Begin, Update, Abort, Commit}
 use Rattle.record.specs.Bytes.{recordsIn}
 use Rattle.journal.specs.Kinds.{emptyBase, emptyJournal}
 use Rattle.journal_store.specs.declared.Head.{Head}
@@ -15,10 +17,6 @@ use Rattle.journal_store.specs.declared.Head.{Head}
 -- low 0, floor 1, no rows, no records
 abbrev pub emptyHead : Head
 emptyHead = record { low = 0; floor = 1; base = emptyBase; journal = emptyJournal }
-
--- one record more
-abbrev pub grown : Head → Head
-grown h = record { low = h .low; floor = h .floor; base = h .base; journal = record { used = h .journal .used + 1 } }
 
 -- section 6, number 1: base rows and used records within limit and room, paired columns of one length, floor not 0
 abbrev pub isShaped : Head → ℕ → ℕ → ℕ → Bool
@@ -52,3 +50,21 @@ pub record Shaped (h : Head) (keys values bytes : ℕ) : Type 0 where
   pub usedLimit : h .journal .used ≤ mostRecords
   pub used : h .journal .used * recordBytes ≤ bytes
   pub floored : h .floor ≡ 0 → ⊥
+
+-- the number of an effect
+abbrev pub amount : Effect → ℕ
+amount (Assign v) = v
+amount (Add d) = d
+
+-- what a call is given fits the numbers of section 2
+pub record Sized (n k v t : ℕ) : Type 0 where
+  pub transaction : n < 2 ^ 32
+  pub key : k < 2 ^ 32
+  pub value : v < 2 ^ 32
+  pub time : t < 2 ^ 64
+
+abbrev pub SizedCall : Call → Type 0
+SizedCall (Begin t) = Sized 0 0 0 t
+SizedCall (Update n k e) = Sized n k (amount e) 0
+SizedCall (Abort n) = Sized n 0 0 0
+SizedCall (Commit n t) = Sized n 0 0 t

@@ -2,7 +2,6 @@
 use mathlib.Core.Path.{_≡_, refl, sym, ap, _∙_}
 use mathlib.Core.Bool.{Bool, true, false, cond}
 use Prim.Native.Nat.{ℕ, _<_}
-use native.Mathlib.Omega.{arith}
 use lib.Dec.{eqb}
 use lib.ListN.{length}
 use borrow.Author.Tests.{eqb-true}
@@ -24,11 +23,10 @@ use Rattle.slot.specs.Laws.{first-slot}
 use Rattle.slot.specs.Places.{free, placeOf, placeIn, placesOf, takenBy}
 use Rattle.slot.specs.PlaceLaws.{place-slot}
 use Rattle.versions.specs.Versions.{Columns, versionsOf}
-use Rattle.versions.specs.Columns.{Spans}
 use Rattle.map_store.specs.declared.MapHead.{MapHead}
 use Rattle.map_store.specs.declared.Outcome.{Outcome}
 use Rattle.map_store.specs.Meaning.{MapStore, mapAnswer, gives}
-use Rattle.map_store.specs.Shape.{lengths, isShaped, Shaped, roomOf, meaning}
+use Rattle.map_store.specs.Shape.{lengths, isShaped, roomOf, meaning}
 use Rattle.map_store.specs.Heads.{headAfter}
 use Rattle.map_store.specs.Contracts.{shapedNumber, number, decided, Answered}
 use Rattle.map_store.specs.Tests.{say, begin-numbered}
@@ -44,11 +42,6 @@ module _ (h : Slots) (n : ℕ) (f : Found) (e : f ≡ slotOf h n) where
 
     pub rowed-found : Formed h → Rowed (slotAt h i)
     rowed-found w = w .rowed i (first-slot (hasNumber n) h (sym e ∙ g) .occupied)
-
--- lent rows of a good shape
-pub lent : (h : MapHead) (cs : Columns) → Shaped h (lengths cs) → Spans (h .used) cs
-lent h cs w =
-    record { keys = w .rows; times = omega (arith, w .rows, w .times); values = omega (arith, w .rows, w .values) }
 
 module _ (h : MapHead) (cs : Columns) (f : MapStore → ℕ) where
   pub number-bad : isShaped h (lengths cs) ≡ false → shapedNumber h cs f ≡ 1

@@ -7,7 +7,6 @@ use native.Mathlib.Nat.{add-zero, min-le-left, min-le-right}
 use native.Mathlib.Omega.{arith}
 use lib.Dec.{eqb, ltb}
 use lib.ListN.{length, drop, set, replicate, length-set, length-append, length-drop, length-replicate}
-use borrow.Author.Tests.{le-leb, eq-eqb, ne-eqb}
 use Rattle.rules.specs.Limits.{mostVersions, mostRunning, mostKeys}
 use Rattle.rules.specs.declared.Effect.{Effect}
 use Rattle.rules.specs.Effects.{orZero, applied}
@@ -17,7 +16,7 @@ use Rattle.column.specs.declared.Found.the-variants.{At, Nothing}
 use Rattle.slot.specs.declared.Slots.{Slots}
 use Rattle.slot.specs.Slots.{slotAt, slotOf, hasNumber}
 use Rattle.slot.specs.Formed.{Formed}
-use Rattle.slot.specs.FormedLaws.{formed-empty, formed-opened, formed-noted, formed-closed, formed-shaped}
+use Rattle.slot.specs.FormedLaws.{formed-opened, formed-noted, formed-closed}
 use Rattle.slot.specs.Laws.{first-slot}
 use Rattle.slot.specs.Places.{Note, Place, hasKey, placesOf, slotRows}
 use Rattle.slot.specs.PlaceLaws.{empty-places, opened-places, closed-places, noted-places}
@@ -28,40 +27,13 @@ use Rattle.versions.specs.Columns.{Spans, Long, column, thinnedColumn, thinned}
 use Rattle.versions.specs.Laws.{long-self, lent-fewer, lent-long, each-long, none-lent, appended-versions, kept-versions, length-column, length-kept, length-versions}
 use Rattle.map_store.specs.declared.MapHead.{MapHead}
 use Rattle.map_store.specs.Meaning.{MapStore, emptyMap, current, mapRefusal, mapAnswer, mapAfter, versionOf, stamp, checkpointed}
-use Rattle.map_store.specs.Shape.{emptyHead, Lengths, lengths, isShaped, Shaped, roomOf, meaning}
+use Rattle.map_store.specs.Shape.{emptyHead, lengths, Shaped, roomOf, meaning}
 use Rattle.map_store.specs.Heads.{begunHead, updatedHead, abortedHead, rowsIn, committedHead, stamped, keptHead}
-use Rattle.map_store.specs.Laws.{place-none, place-found, lent}
+use Rattle.map_store.specs.ShapeLaws.{shaped-long, lent}
+use Rattle.map_store.specs.Laws.{place-none, place-found}
 use Rattle.map_store.specs.Tests.{abort-unknown, update-unknown, commit-unknown, commit-fits}
 
--- a good shape passes the test
-pub shape-passes : (h : MapHead) (l : Lengths) → Shaped h l → isShaped h l ≡ true
-shape-passes h l w =
-    rw (
-      le-leb (h .used) mostVersions (w .limit),
-      le-leb (h .used) (l .keys) (w .rows),
-      eq-eqb (l .keys) (l .times) (w .times),
-      eq-eqb (l .keys) (l .values) (w .values),
-      ne-eqb (h .next) 0 (w .numbered),
-    )
-    (formed-shaped (h .slots) (w .formed))
-
--- and stays one in columns as long
-shaped-long : (h : MapHead) {cs cs' : Columns} → Long cs cs' → Shaped h (lengths cs) → Shaped h (lengths cs')
-shaped-long h l w =
-    record {
-      limit = w .limit;
-      rows = rw (l .keys) (w .rows);
-      times = rw (l .keys, l .times) (w .times);
-      values = rw (l .keys, l .values) (w .values);
-      numbered = w .numbered;
-      formed = w .formed;
-    }
-
--- an empty head has a good shape over columns of one length, and means the empty store
-pub empty-shaped : (n : ℕ) → Shaped emptyHead (record { keys = n; times = n; values = n })
-empty-shaped n =
-    record { limit = omega arith; rows = omega arith; times = refl; values = refl; numbered = λ e. omega arith; formed = formed-empty }
-
+-- an empty head means the empty store
 pub empty-meaning : (cs : Columns) → meaning emptyHead cs ≡ emptyMap
 empty-meaning cs = ap (λ (ps : List Place). record { low = 0; last = 0; next = 1; places = ps; versions = [] }) empty-places
 

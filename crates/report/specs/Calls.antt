@@ -35,10 +35,11 @@ use Rattle.compact.specs.Compact.{compacted}
 use Rattle.journal.specs.Past.{low-last}
 use Rattle.journal_store.specs.declared.Head.{Head}
 use Rattle.journal_store.specs.Shape.{meaning, Shaped}
-use Rattle.journal_store.specs.Contracts.{isListShaped, listNumber, ListedBy, risingKeys, journalBytes, isRecoverable, surviving, walkedReply, recoverReply, recoveredHead, Recovered, Recoverable}
+use Rattle.journal_store.specs.Heads.{recoveredHead}
+use Rattle.journal_store.specs.Contracts.{isListShaped, listNumber, ListedBy, risingKeys, journalBytes, isRecoverable, surviving, walkedReply, recoverReply, Recovered, Recoverable}
 use Rattle.journal_store.specs.Laws.{list-rows, recoverable}
-use Rattle.journal_store.specs.ShapeLaws.{shape-passes, recover-shaped}
-use Rattle.journal_store.specs.Tie.{recover-meaning}
+use Rattle.journal_store.specs.ShapeLaws.{shape-passes}
+use Rattle.journal_store.specs.MeaningLaws.{recover-meaning, recover-shaped}
 use Rattle.report.specs.Text.{timeIs, keysIs, line, rowLines, listText, refusedText, baseOf, mostListed, walkedText, reportText, walkedCells, reportCells}
 use Rattle.report.specs.Written.{Written, Reported}
 use Rattle.report.specs.Laws.{list-length, front-length, above-floor}

@@ -21,7 +21,7 @@ use Rattle.values.specs.Pass.{Inside}
 use Rattle.journal_store.specs.declared.Head.{Head}
 use Rattle.journal_store.specs.declared.Outcome.{Outcome}
 use Rattle.journal_store.specs.Shape.{isShaped, rowRoom, meaning, Shaped}
-use Rattle.journal_store.specs.ShapedLaws.{shape}
+use Rattle.journal_store.specs.ShapeLaws.{shape}
 use Rattle.journal_store.specs.Contracts.{Checkpointed, Settled}
 use Rattle.journal_store.specs.Laws.{checkpoint-bad, checkpoint-refused, checkpoint-full, checkpoint-written}
 use borrow.Author.Needs.{needs}

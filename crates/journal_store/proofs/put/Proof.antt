@@ -6,7 +6,7 @@ use Prim.Native.Nat.{ℕ}
 use Rattle.rules.specs.declared.Record.{Record}
 use Rattle.record.specs.Bytes.{appended}
 use Rattle.journal_store.specs.declared.Head.{Head}
-use Rattle.journal_store.specs.Shape.{grown}
+use Rattle.journal_store.specs.Heads.{grown}
 use Rattle.journal_store.specs.Contracts.{Put}
 use borrow.Author.Needs.{needs}
 use denote.Ref.{now}

@@ -21,7 +21,8 @@ use Rattle.versions.specs.Laws.{length-versions}
 use Rattle.map_store.specs.declared.MapHead.{MapHead}
 use Rattle.map_store.specs.Meaning.{firsts, mapAnswer}
 use Rattle.map_store.specs.Shape.{roomOf, meaning}
-use Rattle.map_store.specs.Laws.{lent, place-none, place-found, rowed-found}
+use Rattle.map_store.specs.ShapeLaws.{lent}
+use Rattle.map_store.specs.Laws.{place-none, place-found, rowed-found}
 use Rattle.map_store.specs.Tests.{say, commit-unknown, commit-later, commit-conflict, commit-room, commit-done}
 use Rattle.map_commit.specs.Commit.{Stamped, Put, room-lent, commit-bad-shape, commit-turned-down, commit-carried-out}
 use Rattle.map_commit.specs.RowLaws.{length-firsts}

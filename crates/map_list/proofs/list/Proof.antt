@@ -10,7 +10,7 @@ use Rattle.answer.specs.Reply.{ofListed}
 use Rattle.versions.specs.Versions.{columns, listAt}
 use Rattle.map_store.specs.Meaning.{listAnswer}
 use Rattle.map_store.specs.Shape.{meaning}
-use Rattle.map_store.specs.Laws.{lent}
+use Rattle.map_store.specs.ShapeLaws.{lent}
 use Rattle.map_store.specs.Tests.{say, list-old, list-future}
 use Rattle.map_list.specs.List.{list-unpaired, list-bad-shape, list-untimely, list-timed}
 use Rattle.map_list.proofs.list.Statement.{statement}

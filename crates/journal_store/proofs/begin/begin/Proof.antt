@@ -4,7 +4,7 @@ use borrow.Author.Tests.{not-true, not-false}
 use lib.ListN.{length}
 use Rattle.rules.specs.Calls.{Begin, answer, nextOf, Store}
 use Rattle.answer.specs.Reply.{ofBegun, told, begunNumber, Reply}
-use Rattle.journal_store.specs.ShapedLaws.{shape}
+use Rattle.journal_store.specs.ShapeLaws.{shape}
 use Rattle.journal_store.specs.Contracts.{decided}
 use Rattle.journal_store.specs.Laws.{bad-shape, has-room, wrote}
 use mathlib.Core.Path.{ap}

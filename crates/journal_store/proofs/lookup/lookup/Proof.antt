@@ -2,7 +2,7 @@
 use mathlib.Core.Path.{_≡_, sym, _∙_}
 use borrow.Author.Tests.{not-true, not-false}
 use lib.ListN.{length}
-use Rattle.journal_store.specs.ShapedLaws.{shape}
+use Rattle.journal_store.specs.ShapeLaws.{shape}
 use Rattle.journal_store.specs.Contracts.{lookupDecided}
 use Rattle.journal_store.specs.Laws.{reply-bad, reply-good}
 use borrow.Author.Needs.{needs}

@@ -4,7 +4,7 @@ use borrow.Author.Tests.{not-true, not-false}
 use lib.ListN.{length}
 use Rattle.rules.specs.Calls.{Update}
 use Rattle.answer.specs.Reply.{ofDone}
-use Rattle.journal_store.specs.ShapedLaws.{shape}
+use Rattle.journal_store.specs.ShapeLaws.{shape}
 use Rattle.journal_store.specs.Laws.{bad-shape, has-room, wrote}
 use borrow.Author.Needs.{needs}
 use denote.Ref.{now}

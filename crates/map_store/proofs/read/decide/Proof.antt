@@ -7,7 +7,8 @@ use Rattle.slot.specs.Places.{takenBy, slotRows, placeOf}
 use Rattle.versions.specs.Versions.{columns}
 use Rattle.map_store.specs.Meaning.{MapStore, current, readRefusal, readIn}
 use Rattle.map_store.specs.Shape.{meaning}
-use Rattle.map_store.specs.Laws.{place-none, place-found, rowed-found, lent}
+use Rattle.map_store.specs.ShapeLaws.{lent}
+use Rattle.map_store.specs.Laws.{place-none, place-found, rowed-found}
 use Rattle.map_store.specs.Tests.{say, say-value, read-unknown, read-key, read-done}
 use borrow.Author.Needs.{needs}
 use denote.Ref.{now}

@@ -24,7 +24,8 @@ use Rattle.map_store.specs.declared.MapHead.{MapHead}
 use Rattle.map_store.specs.Meaning.{current, mapRefusal}
 use Rattle.map_store.specs.Shape.{meaning}
 use Rattle.map_store.specs.Heads.{withSlots, updatedHead}
-use Rattle.map_store.specs.Laws.{lent, place-none, place-found, rowed-found, bad-shape, turned-down, carried-out}
+use Rattle.map_store.specs.ShapeLaws.{lent}
+use Rattle.map_store.specs.Laws.{place-none, place-found, rowed-found, bad-shape, turned-down, carried-out}
 use Rattle.map_store.specs.Tests.{say, update-unknown, update-key, update-full, update-fits}
 use Rattle.map_store.proofs.update.update.Statement.{statement}
 use Rattle.map_store.proofs.update.update.Tie as tie
