@@ -104,7 +104,7 @@ module _ {room : ℕ → Type 0} {ds : List Deed} {since : ℕ} {x : Cells} (m :
     accepted : number c (x .head) keys values journal ≡ 0 → Meant room (Did c ∷ ds) (suc since) longer
     accepted e =
         let b = shape-accepted c (x .head) keys values journal e in
-        let w = shape (x .head) (length keys) (length values) (length journal) b in
+        let w : Shaped (x .head) (length keys) (length values) (length journal) = shape b in
         let q = held-meaning x keys values journal (m .shaped) w (h b) in
         let s = meaning (x .head) keys values journal in
         let a : answer (roomOf (length journal)) c s ≡ 0 = rw b at e in
@@ -166,7 +166,7 @@ module _ {room : ℕ → Type 0} {ds : List Deed} {since : ℕ} {x : Cells} (m :
         (λ b. b)
         (λ b. let z : _≡_ {A = ℕ} 1 0 = rw b at e in absurd (omega arith))
         in
-        let w = shape (x .head) (length keys) (length values) (length journal) b in
+        let w : Shaped (x .head) (length keys) (length values) (length journal) = shape b in
         let q = held-meaning x keys values journal (m .shaped) w (h b) in
         let a : checkpointAnswer (rowRoom (length keys)) T before ≡ 0 = rw b at e in
         let p = checkpoint-meaning T (x .head) keys values journal small spelled in

@@ -30,8 +30,8 @@ pub record Put (h : Head) (j : List ℕ) (accepted : Bool) (r : Record) (head : 
   pub cells : exit ≡ cond accepted (appended j (h .journal .used) r) j
 
 -- what a store of good shape with so much room answers
-abbrev pub decided : Call → ℕ → Store → Reply
-decided c room s = told (answer room c s) (gives c s)
+pub record Decided (c : Call) (room : ℕ) (s : Store) (a : Reply) : Type 0 where
+  pub reply : a ≡ told (answer room c s) (gives c s)
 
 -- the number that a call gets
 abbrev pub number : Call → Head → List ℕ → List ℕ → List ℕ → ℕ

@@ -2,8 +2,7 @@
 use mathlib.Core.Path.{_≡_, sym, ap, _∙_, refl}
 use mathlib.Core.Bool.{Bool, true, false, cond, _&&_, not}
 use mathlib.Core.List.{List, _++_}
-use Prim.Native.Nat.{ℕ, _+_, _*_, _≤_, _/_, _<_}
-use native.Mathlib.Nat.{min-le-right, min-le-left}
+use Prim.Native.Nat.{ℕ, _+_, _*_, _≤_, _<_}
 use native.Mathlib.Omega.{arith}
 use lib.Dec.{eqb, ltb, leb}
 use lib.ListN.{length, drop, take}
@@ -18,12 +17,11 @@ use Rattle.rules.specs.declared.Value.the-variants.{Absent, Present}
 use Rattle.rules.specs.Lists.{rowKeys}
 use Rattle.rules.specs.Columns.{rowValues, Filled}
 use Rattle.rules.specs.Checkpoints.{kept}
-use Rattle.rules.specs.Limits.{mostRecords, mostRows}
+use Rattle.rules.specs.Limits.{mostRows}
 use Rattle.rules.specs.declared.Walked.{Walked}
 use Rattle.rules.specs.declared.Walked.the-variants.{Whole, BadAt}
 use Rattle.rules.specs.Recovery.{walk, survivors}
 use Rattle.record.specs.Bytes.{appended}
-use Rattle.record.specs.Laws.{length-records}
 use Rattle.answer.specs.declared.Refusal.the-variants.{BadShape, NoRoom}
 use Rattle.answer.specs.Reply.{Reply, refused, told, accepted, numberOf, placeOf}
 use Rattle.answer.specs.Laws.{after-refused, refused-some}
@@ -33,7 +31,7 @@ use Rattle.journal_store.specs.declared.Head.{Head}
 use Rattle.journal_store.specs.Shape.{isShaped, roomOf, meaning, Shaped, rowRoom}
 use Rattle.journal_store.specs.Heads.{grown, checkpointHead, recoveredHead}
 use Rattle.journal_store.specs.ShapeLaws.{shape}
-use Rattle.journal_store.specs.Contracts.{Put, decided, number, Wrote, readDecided, lookupDecided, shapedReply, listDecided, isListShaped, listNumber, ListedBy, checkpointNumber, Checkpointed, risingKeys, journalBytes, isRecoverable, surviving, recoverReply, Recovered, Recoverable}
+use Rattle.journal_store.specs.Contracts.{Put, Decided, number, Wrote, readDecided, lookupDecided, shapedReply, listDecided, isListShaped, listNumber, ListedBy, checkpointNumber, Checkpointed, risingKeys, journalBytes, isRecoverable, surviving, recoverReply, Recovered, Recoverable}
 
 -- an accepted call has the room that it needs
 pub room-left : (room : ℕ) (c : Call) (s : Store) → answer room c s ≡ 0 → length (s .records) + need c s ≤ room
@@ -45,40 +43,39 @@ need-some (Rattle.rules.specs.Calls.Update n k e) s = omega arith
 need-some (Rattle.rules.specs.Calls.Abort n) s = omega arith
 need-some (Rattle.rules.specs.Calls.Commit n t) s = omega arith
 
-module _ (c : Call) (h : Head) (keys values j : List ℕ) where
+-- an accepted call has room for its record
+pub has-room : {c : Call} {room used : ℕ} {s : Store} {a : Reply} {accepted : Bool} → Decided c room s a → accepted ≡ eqb (a .number) 0
+    → length (s .records) ≡ used → accepted ≡ true → used + 1 ≤ room
+has-room {c} {room} {used} {s} {a} d y u e =
+    let z : answer room c s ≡ 0 = eqb-true (answer room c s) 0 (sym (ap (λ (r : Reply). eqb (r .number) 0) (d .reply)) ∙ sym y ∙ e) in
+    omega (arith, room-left room c s z, need-some c s)
+
+-- the number of a call, by the shape test
+counted : (c : Call) (h : Head) (keys values j : List ℕ) (b : Bool) → isShaped h (length keys) (length values) (length j) ≡ b
+    → number c h keys values j ≡ cond b (answer (roomOf (length j)) c (meaning h keys values j)) 1
+counted c h keys values j b e = ap (λ (x : Bool). cond x (answer (roomOf (length j)) c (meaning h keys values j)) 1) e
+
+module _ {c : Call} {h : Head} {keys values j : List ℕ} where
   -- a store of bad shape: refused, and nothing changes
   pub bad-shape : isShaped h (length keys) (length values) (length j) ≡ false → Wrote c h keys values j (refused BadShape) h j
   bad-shape e =
-      let q : number c h keys values j ≡ 1 = ap (λ (b : Bool). cond b (answer (roomOf (length j)) c (meaning h keys values j)) 1) e in
+      let q = counted c h keys values j false e in
       record {
         reply = sym (ap (λ (n : ℕ). told n (gives c (meaning h keys values j))) q);
         headed = after-refused BadShape (number c h keys values j) (grown h) h q;
         cells = after-refused BadShape (number c h keys values j) (appended j (h .journal .used) (recordOf c (meaning h keys values j))) j q;
       }
 
-  module _ (shaped : isShaped h (length keys) (length values) (length j) ≡ true) (a : Reply)
-      (d : a ≡ decided c (roomOf (length j)) (meaning h keys values j)) (accepted : Bool) (y : accepted ≡ eqb (a .number) 0) where
-    counted : number c h keys values j ≡ answer (roomOf (length j)) c (meaning h keys values j)
-    counted = ap (λ (b : Bool). cond b (answer (roomOf (length j)) c (meaning h keys values j)) 1) shaped
-
-    accepts : accepted ≡ eqb (number c h keys values j) 0
-    accepts = y ∙ ap (λ (r : Reply). eqb (r .number) 0) d ∙ ap (λ (n : ℕ). eqb n 0) (sym counted)
-
-    -- an accepted call has room for its record
-    pub has-room : accepted ≡ true → (h .journal .used ≤ mostRecords) × (h .journal .used * recordBytes + recordBytes ≤ length j)
-    has-room e =
-        let z : number c h keys values j ≡ 0 = eqb-true (number c h keys values j) 0 (sym accepts ∙ e) in
-        let l = room-left (roomOf (length j)) c (meaning h keys values j) (sym counted ∙ z) in
-        let n = length-records (h .journal .used) j in
-        let k = need-some c (meaning h keys values j) in
-        (omega (arith, min-le-left mostRecords (length j / recordBytes)), omega (arith, min-le-right mostRecords (length j / recordBytes)))
-
-    -- what was decided and put is what the call writes
-    pub wrote : (r : Record) (head : Head) (exit : List ℕ) → (accepted ≡ true → r ≡ recordOf c (meaning h keys values j))
-        → Put h j accepted r head exit → Wrote c h keys values j a head exit
-    wrote r head exit rec p =
+  -- what was decided and put is what the call writes
+  module _ {a : Reply} {accepted : Bool} {r : Record} {head : Head} {exit : List ℕ} where
+    pub wrote : isShaped h (length keys) (length values) (length j) ≡ true → Decided c (roomOf (length j)) (meaning h keys values j) a
+        → accepted ≡ eqb (a .number) 0 → (accepted ≡ true → r ≡ recordOf c (meaning h keys values j)) → Put h j accepted r head exit
+        → Wrote c h keys values j a head exit
+    wrote shaped d y rec p =
+        let q = counted c h keys values j true shaped in
+        let accepts : accepted ≡ eqb (number c h keys values j) 0 = y ∙ ap (λ (x : Reply). eqb (x .number) 0) (d .reply) ∙ ap (λ (n : ℕ). eqb n 0) (sym q) in
         record {
-          reply = d ∙ ap (λ (n : ℕ). told n (gives c (meaning h keys values j))) (sym counted);
+          reply = d .reply ∙ ap (λ (n : ℕ). told n (gives c (meaning h keys values j))) (sym q);
           headed = p .headed ∙ ap (λ (b : Bool). cond b (grown h) h) accepts;
           cells =
               p .cells
@@ -89,14 +86,10 @@ module _ (c : Call) (h : Head) (keys values j : List ℕ) where
               ∙ ap (λ (b : Bool). cond b (appended j (h .journal .used) (recordOf c (meaning h keys values j))) j) (sym e ∙ accepts));
         }
 
--- a store of bad shape, and one of good shape
-module _ (h : Head) (keys values j : List ℕ) (decided : Store → Reply) where
-  pub reply-bad : isShaped h (length keys) (length values) (length j) ≡ false → record { number = 1; value = Absent } ≡ shapedReply h keys values j decided
-  reply-bad e = rw e
-
-  pub reply-good : (r : Reply) → isShaped h (length keys) (length values) (length j) ≡ true → r ≡ decided (meaning h keys values j)
-      → r ≡ shapedReply h keys values j decided
-  reply-good r e d = rw e d
+-- what a store of good shape answers
+pub reply-good : (h : Head) (keys values j : List ℕ) (decided : Store → Reply) (r : Reply) → isShaped h (length keys) (length values) (length j) ≡ true
+    → r ≡ decided (meaning h keys values j) → r ≡ shapedReply h keys values j decided
+reply-good h keys values j decided r e d = rw e d
 
 -- the ways out of a read
 module _ (n k : ℕ) (s : Store) (b : Bool) (e : b ≡ runsIn n s) where
@@ -129,7 +122,7 @@ module _ (k t : ℕ) (s : Store) where
 -- what a good shape says
 module _ (h : Head) (keys values bytes listed contents : ℕ) (e : isListShaped h keys values bytes listed contents ≡ true) where
   pub list-shape : Shaped h keys values bytes
-  list-shape = shape h keys values bytes (and-right (eqb listed contents) (isShaped h keys values bytes) e)
+  list-shape = shape (and-right (eqb listed contents) (isShaped h keys values bytes) e)
 
   pub list-paired : listed ≡ contents
   list-paired = eqb-true listed contents (and-left (eqb listed contents) (isShaped h keys values bytes) e)

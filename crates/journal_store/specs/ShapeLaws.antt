@@ -12,8 +12,8 @@ use Rattle.journal_store.specs.declared.Head.{Head}
 use Rattle.journal_store.specs.Shape.{isShaped, Shaped}
 
 -- what passes the test has a good shape
-pub shape : (h : Head) (keys values bytes : ℕ) → isShaped h keys values bytes ≡ true → Shaped h keys values bytes
-shape h keys values bytes e =
+pub shape : {h : Head} {keys values bytes : ℕ} → isShaped h keys values bytes ≡ true → Shaped h keys values bytes
+shape {h} {keys} {values} {bytes} e =
     let a = leb (h .base .rows) mostRows in
     let b = leb (h .base .rows) keys in
     let c = eqb keys values in

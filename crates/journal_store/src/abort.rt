@@ -5,7 +5,7 @@ ghost use Rattle.rules.specs.Kinds.{aborted as abortedBy};
 ghost use Rattle.rules.specs.Calls.{Abort};
 ghost use Rattle.answer.specs.Reply.{ofDone};
 ghost use Rattle.journal_store.specs.Shape.{Shaped, meaning, roomOf};
-ghost use Rattle.journal_store.specs.Contracts.{decided, Wrote};
+ghost use Rattle.journal_store.specs.Contracts.{Decided, Wrote};
 use crate::Head;
 use crate::Outcome;
 use answer::Done;
@@ -29,16 +29,13 @@ fn aborted(n: u32) -> Record
 // What a store of good shape answers.
 fn decide(h: Head, keys: &[u32], values: &[u32], journal: &[u8], n: u32) -> Done
     requires { ⌜ Shaped h (length (now keys)) (length (now values)) (length (now journal)) ⌝ }
-    ensures { λ r. ⌜ ofDone r ≡ decided (Abort n) (roomOf (length (now (journal .entry)))) (meaning h (now (keys .entry)) (now (values .entry)) (now (journal .entry))) ⌝ }
+    ensures { λ r. ⌜ Decided (Abort n) (roomOf (length (now (journal .entry)))) (meaning h (now (keys .entry)) (now (values .entry)) (now (journal .entry))) (ofDone r) ⌝ }
 {
     let used = h.journal.used;
     if !journal::transactions::runs(journal, used, n) {
         return Done::Refused(Refusal::UnknownTransaction);
     }
-    if crate::room(journal.len()) < used + 1 {
-        return Done::Refused(Refusal::NoRoom);
-    }
-    Done::Accepted
+    crate::with_room(journal.len(), used + 1)
 }
 
 // Ends a running transaction; its updates have no effect.

@@ -5,7 +5,7 @@ ghost use Rattle.rules.specs.Kinds.{begun as begunBy};
 ghost use Rattle.rules.specs.Calls.{Begin};
 ghost use Rattle.answer.specs.Reply.{ofBegun};
 ghost use Rattle.journal_store.specs.Shape.{Shaped, meaning, roomOf};
-ghost use Rattle.journal_store.specs.Contracts.{decided, Wrote};
+ghost use Rattle.journal_store.specs.Contracts.{Decided, Wrote};
 use crate::Head;
 use crate::Started;
 use answer::Begun;
@@ -30,7 +30,7 @@ fn begun(n: u32, t: u64) -> Record
 // What a store of good shape answers.
 fn decide(h: Head, keys: &[u32], values: &[u32], journal: &[u8], t: u64) -> Begun
     requires { ⌜ Shaped h (length (now keys)) (length (now values)) (length (now journal)) ⌝ }
-    ensures { λ r. ⌜ ofBegun r ≡ decided (Begin t) (roomOf (length (now (journal .entry)))) (meaning h (now (keys .entry)) (now (values .entry)) (now (journal .entry))) ⌝ }
+    ensures { λ r. ⌜ Decided (Begin t) (roomOf (length (now (journal .entry)))) (meaning h (now (keys .entry)) (now (values .entry)) (now (journal .entry))) (ofBegun r) ⌝ }
 {
     let used = h.journal.used;
     if t < h.low {

@@ -5,7 +5,7 @@ ghost use Rattle.rules.specs.Kinds.{committed as committedBy};
 ghost use Rattle.rules.specs.Calls.{Commit};
 ghost use Rattle.answer.specs.Reply.{ofDone};
 ghost use Rattle.journal_store.specs.Shape.{Shaped, meaning, roomOf};
-ghost use Rattle.journal_store.specs.Contracts.{decided, Wrote};
+ghost use Rattle.journal_store.specs.Contracts.{Decided, Wrote};
 use crate::Head;
 use crate::Outcome;
 use answer::Done;
@@ -29,7 +29,7 @@ fn committed(n: u32, t: u64) -> Record
 // What a store of good shape answers.
 fn decide(h: Head, keys: &[u32], values: &[u32], journal: &[u8], n: u32, t: u64) -> Done
     requires { ⌜ Shaped h (length (now keys)) (length (now values)) (length (now journal)) ⌝ }
-    ensures { λ r. ⌜ ofDone r ≡ decided (Commit n t) (roomOf (length (now (journal .entry)))) (meaning h (now (keys .entry)) (now (values .entry)) (now (journal .entry))) ⌝ }
+    ensures { λ r. ⌜ Decided (Commit n t) (roomOf (length (now (journal .entry)))) (meaning h (now (keys .entry)) (now (values .entry)) (now (journal .entry))) (ofDone r) ⌝ }
 {
     let used = h.journal.used;
     let trace = journal::transactions::follow(journal, used, n);
@@ -43,10 +43,7 @@ fn decide(h: Head, keys: &[u32], values: &[u32], journal: &[u8], n: u32, t: u64)
     if journal::conflicts::conflict(journal, used, n, trace.snapshot, last) {
         return Done::Refused(Refusal::Conflict);
     }
-    if crate::room(journal.len()) < used + 1 {
-        return Done::Refused(Refusal::NoRoom);
-    }
-    Done::Accepted
+    crate::with_room(journal.len(), used + 1)
 }
 
 // Commits a running transaction at t.

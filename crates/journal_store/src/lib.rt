@@ -2,15 +2,18 @@
 // the same shape test; it answers for all inputs and asks nothing of its caller.
 ghost use mathlib.Core.Path.{_≡_};
 ghost use mathlib.Core.Bool.{true};
-ghost use Prim.Native.Nat.{_+_, _*_, _≤_};
+ghost use Prim.Native.Nat.{_+_, _≤_};
 ghost use lib.ListN.{length};
+ghost use Rattle.rules.specs.declared.Value.the-variants.{Absent};
 ghost use Rattle.rules.specs.Limits.{mostRecords};
-ghost use Rattle.rules.specs.Kinds.{recordBytes};
+ghost use Rattle.rules.specs.Calls.{withRoom};
+ghost use Rattle.answer.specs.Reply.{ofDone, told};
 ghost use Rattle.journal_store.specs.Shape.{emptyHead, isShaped, roomOf};
 ghost use Rattle.journal_store.specs.Heads.{grown};
 ghost use Rattle.journal_store.specs.Contracts.{Put};
 use answer::Begun;
 use answer::Done;
+use answer::Refusal;
 use journal::Base;
 use journal::Journal;
 use rules::Record;
@@ -107,9 +110,19 @@ fn room(bytes: usize) -> usize
     records
 }
 
+// The last test of every call: so many records fit.
+fn with_room(bytes: usize, wanted: usize) -> Done
+    ensures { λ r. ⌜ ofDone r ≡ told (withRoom 0 wanted (roomOf bytes)) Absent ⌝ }
+{
+    if room(bytes) < wanted {
+        return Done::Refused(Refusal::NoRoom);
+    }
+    Done::Accepted
+}
+
 // The record of an accepted call goes into the unused end of the journal; a refused call changes nothing.
 fn put(h: Head, journal: &mut [u8], accepted: bool, r: Record) -> Head
-    requires { ⌜ ((accepted ≡ true) → (h .journal .used ≤ mostRecords) × (h .journal .used * recordBytes + recordBytes ≤ length (now journal))) ⌝ }
+    requires { ⌜ ((accepted ≡ true) → h .journal .used + 1 ≤ roomOf (length (now journal))) ⌝ }
     ensures { λ v. ⌜ Put h (now (journal .entry)) accepted r v (now (journal .exit)) ⌝ }
 {
     if accepted {

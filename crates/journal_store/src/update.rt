@@ -4,7 +4,7 @@ ghost use lib.ListN.{length};
 ghost use Rattle.rules.specs.Calls.{Update, updated as updatedBy};
 ghost use Rattle.answer.specs.Reply.{ofDone};
 ghost use Rattle.journal_store.specs.Shape.{Shaped, meaning, roomOf};
-ghost use Rattle.journal_store.specs.Contracts.{decided, Wrote};
+ghost use Rattle.journal_store.specs.Contracts.{Decided, Wrote};
 use crate::Head;
 use crate::Outcome;
 use answer::Done;
@@ -39,7 +39,7 @@ fn updated(n: u32, k: u32, e: Effect) -> Record
 // What a store of good shape answers.
 fn decide(h: Head, keys: &[u32], values: &[u32], journal: &[u8], n: u32, k: u32, e: Effect) -> Done
     requires { ⌜ Shaped h (length (now keys)) (length (now values)) (length (now journal)) ⌝ }
-    ensures { λ r. ⌜ ofDone r ≡ decided (Update n k e) (roomOf (length (now (journal .entry)))) (meaning h (now (keys .entry)) (now (values .entry)) (now (journal .entry))) ⌝ }
+    ensures { λ r. ⌜ Decided (Update n k e) (roomOf (length (now (journal .entry)))) (meaning h (now (keys .entry)) (now (values .entry)) (now (journal .entry))) (ofDone r) ⌝ }
 {
     let used = h.journal.used;
     if !journal::transactions::runs(journal, used, n) {
@@ -52,10 +52,7 @@ fn decide(h: Head, keys: &[u32], values: &[u32], journal: &[u8], n: u32, k: u32,
         return Done::Refused(Refusal::KeysFull);
     }
     let running = journal::transactions::count_running(journal, used);
-    if crate::room(journal.len()) < used + (1 + running) {
-        return Done::Refused(Refusal::NoRoom);
-    }
-    Done::Accepted
+    crate::with_room(journal.len(), used + (1 + running))
 }
 
 // Notes an effect of a running transaction on a key.

@@ -75,7 +75,7 @@ decide-requires c κs =
     let sh = e1 .before in
     let a = sh .before .before .before .before .args in
     let z = sym (sh .shaped .ensures) ∙ not-false _ (e1 .if1 .left) in
-    shape (a .h) (length (now (a .keys))) (length (now (a .values))) (length (now (a .journal))) z
+    shape z
 
 returns-2 : tie.Need-returns-2
 returns-2 c =
@@ -95,7 +95,8 @@ next-requires c κs =
     let sh = e1 .before in
     let a = sh .before .before .before .before .args in
     let z = sym (sh .shaped .ensures) ∙ not-false _ (e1 .if1 .left) in
-    shape (a .h) (length (now (a .keys))) (length (now (a .values))) (length (now (a .journal))) z .used
+    let s : Shaped (a .h) (length (now (a .keys))) (length (now (a .values))) (length (now (a .journal))) = shape z in
+    s .used
 
 settle-requires : tie.Need-settle-requires
 settle-requires c κs =
@@ -104,7 +105,7 @@ settle-requires c κs =
     let sh = e1 .before in
     let a = sh .before .before .before .before .args in
     let z = sym (sh .shaped .ensures) ∙ not-false _ (e1 .if1 .left) in
-    lent (a .h) (now (a .keys)) (now (a .values)) (now (a .journal)) (shape (a .h) (length (now (a .keys))) (length (now (a .values))) (length (now (a .journal))) z)
+    lent (a .h) (now (a .keys)) (now (a .values)) (now (a .journal)) (shape z)
 
 returns-3 : tie.Need-returns-3
 returns-3 c =
@@ -128,7 +129,7 @@ keep-running-requires c κs =
     let sh = e1 .before in
     let a = sh .before .before .before .before .args in
     let z = sym (sh .shaped .ensures) ∙ not-false _ (e1 .if1 .left) in
-    let s = shape (a .h) (length (now (a .keys))) (length (now (a .values))) (length (now (a .journal))) z in
+    let s : Shaped (a .h) (length (now (a .keys))) (length (now (a .values))) (length (now (a .journal))) = shape z in
     (s .usedLimit, s .used)
 
 returns-4 : tie.Need-returns-4

@@ -1,9 +1,14 @@
 -- `journal_store::put` meets its contract: an accepted record is appended and counted. Assumes nothing.
 use mathlib.Core.Path.{_≡_, refl}
-use mathlib.Core.Bool.{Bool, true, false, cond}
+use mathlib.Core.Bool.{Bool, true, false}
 use mathlib.Core.List.{List}
-use Prim.Native.Nat.{ℕ}
+use Prim.Native.Nat.{ℕ, _/_}
+use native.Mathlib.Nat.{min-le-left, min-le-right}
+use native.Mathlib.Omega.{arith}
+use lib.ListN.{length}
 use Rattle.rules.specs.declared.Record.{Record}
+use Rattle.rules.specs.Limits.{mostRecords}
+use Rattle.rules.specs.Kinds.{recordBytes}
 use Rattle.record.specs.Bytes.{appended}
 use Rattle.journal_store.specs.declared.Head.{Head}
 use Rattle.journal_store.specs.Heads.{grown}
@@ -21,12 +26,15 @@ module _ (h head : Head) (j exit : List ℕ) (accepted : Bool) (r : Record) wher
   left e f g = record { headed = rw e f; cells = rw e g }
 
 append-requires : tie.Need-append-requires
-append-requires c κs = c .before .before .before .pre (c .before .if1 .taken) .1
+append-requires c κs =
+    let j = now (c .before .before .before .args .journal) in
+    omega (arith, c .before .before .before .pre (c .before .if1 .taken), min-le-right mostRecords (length j / recordBytes))
 
 longer-requires : tie.Need-longer-requires
 longer-requires c κs =
     let t = c .before .before .before .before in
-    t .before .before .pre (t .if1 .taken) .0
+    let j = now (t .before .before .args .journal) in
+    omega (arith, t .before .before .pre (t .if1 .taken), min-le-left mostRecords (length j / recordBytes))
 
 returns : tie.Need-returns
 returns c =

@@ -1,9 +1,7 @@
 -- `journal_store::read::decide` meets its contract: a law for each way out. Assumes nothing.
-use mathlib.Core.Path.{_≡_, ap, _∙_}
+use mathlib.Core.Path.{ap, _∙_}
 use mathlib.Core.Bool.{not, _&&_}
-use Prim.Native.Nat.{ℕ}
 use borrow.Author.Tests.{not-true, not-false}
-use Rattle.rules.specs.Transactions.{of}
 use Rattle.rules.specs.Values.{readIn}
 use Rattle.rules.specs.Columns.{firstRows}
 use Rattle.record.specs.Bytes.{recordsIn}

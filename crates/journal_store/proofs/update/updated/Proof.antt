@@ -1,5 +1,5 @@
 -- `journal_store::update::updated` meets its contract: an arm for each effect. Assumes nothing.
-use mathlib.Core.Path.{_≡_, sym, ap}
+use mathlib.Core.Path.{sym, ap}
 use Rattle.rules.specs.declared.Effect.{Effect}
 use Rattle.rules.specs.Calls.{updated}
 use borrow.Author.Needs.{needs}
