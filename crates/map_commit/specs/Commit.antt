@@ -24,7 +24,7 @@ use Rattle.map_store.specs.declared.Outcome.{Outcome}
 use Rattle.map_store.specs.Meaning.{mapAnswer}
 use Rattle.map_store.specs.Shape.{lengths, isShaped, Shaped, roomOf, meaning}
 use Rattle.map_store.specs.Heads.{committedHead, rowsIn, stamped}
-use Rattle.map_store.specs.Contracts.{number, decided, Committed}
+use Rattle.map_store.specs.Contracts.{number, Decided, Committed}
 use Rattle.map_store.specs.Laws.{number-bad, number-good, changed, bad-shape, answered}
 
 -- the columns with some rows written behind their used ones at one commit time, and how many are used then
@@ -44,33 +44,25 @@ room-lent h cs w rows l =
     let r = min-le-right mostVersions (length (cs .keys)) in
     record { keys = omega arith; times = omega (arith, w .times); values = omega (arith, w .values) }
 
-module _ (n t : ℕ) (h : MapHead) (cs : Columns) where
+module _ {n t : ℕ} {h : MapHead} {cs : Columns} where
   pub commit-bad-shape : isShaped h (lengths cs) ≡ false → Committed n t h cs (refused BadShape) h cs
   commit-bad-shape e =
-      let q = number-bad h cs (mapAnswer (roomOf (length (cs .keys))) (Commit n t)) e in
       record {
-        answered = bad-shape (Commit n t) h cs e;
-        cells = after-refused BadShape (number (Commit n t) h cs) _ cs q;
+        answered = bad-shape e;
+        cells = after-refused BadShape (number (Commit n t) h cs) _ cs (number-bad h cs (mapAnswer (roomOf (length (cs .keys))) (Commit n t)) e);
       }
 
-  module _ (shaped : isShaped h (lengths cs) ≡ true) (a : Reply)
-      (d : a ≡ decided (Commit n t) (roomOf (length (cs .keys))) (meaning h cs)) (accepted : Bool) (y : accepted ≡ eqb (a .number) 0) where
-    pub committed : (head : MapHead) (cs' : Columns) → Put n t h cs accepted head cs'
-        → Committed n t h cs a head cs'
-    committed head cs' p =
-        let q = number-good h cs (mapAnswer (roomOf (length (cs .keys))) (Commit n t)) shaped in
-        record {
-          answered = answered (Commit n t) h cs shaped a d accepted y head (p .headed);
-          cells = changed _ _ Absent q a d accepted y _ _ cs' (p .cells);
-        }
-
   module _ (shaped : isShaped h (lengths cs) ≡ true) where
-    pub commit-turned-down : (o : Outcome) (x : Refusal) → (o .head ≡ h) × (o .answer ≡ done.Refused x)
-        → refused x ≡ decided (Commit n t) (roomOf (length (cs .keys))) (meaning h cs) → Committed n t h cs (ofDone (o .answer)) (o .head) cs
-    commit-turned-down o x r d =
-        rw (r .0, r .1)
-        (committed shaped (refused x) d false (sym (refused-some x)) h cs (record { headed = refl; cells = refl }))
+    committed : {a : Reply} → Decided (Commit n t) (roomOf (length (cs .keys))) (meaning h cs) a → {accepted : Bool} → accepted ≡ eqb (a .number) 0
+        → {head : MapHead} {cs' : Columns} → Put n t h cs accepted head cs' → Committed n t h cs a head cs'
+    committed {a} d {accepted} y {head} {cs'} p =
+        let q = number-good h cs (mapAnswer (roomOf (length (cs .keys))) (Commit n t)) shaped in
+        record { answered = answered shaped d y (p .headed); cells = changed _ _ Absent q a (d .reply) accepted y _ _ cs' (p .cells) }
 
-    pub commit-carried-out : (head : MapHead) (cs' : Columns) → accepted Absent ≡ decided (Commit n t) (roomOf (length (cs .keys))) (meaning h cs)
+    pub commit-turned-down : (o : Outcome) (x : Refusal) → (o .head ≡ h) × (o .answer ≡ done.Refused x)
+        → Decided (Commit n t) (roomOf (length (cs .keys))) (meaning h cs) (refused x) → Committed n t h cs (ofDone (o .answer)) (o .head) cs
+    commit-turned-down o x r d = rw (r .0, r .1) (committed d {accepted = false} (sym (refused-some x)) (record { headed = refl; cells = refl }))
+
+    pub commit-carried-out : {head : MapHead} {cs' : Columns} → Decided (Commit n t) (roomOf (length (cs .keys))) (meaning h cs) (accepted Absent)
         → Put n t h cs true head cs' → Committed n t h cs (accepted Absent) head cs'
-    commit-carried-out head cs' d p = committed shaped (accepted Absent) d true refl head cs' p
+    commit-carried-out d p = committed d refl p

@@ -27,8 +27,8 @@ abbrev pub number : Call → MapHead → Columns → ℕ
 number c h cs = shapedNumber h cs (mapAnswer (roomOf (length (cs .keys))) c)
 
 -- what a store of good shape with so much room answers
-abbrev pub decided : Call → ℕ → MapStore → Reply
-decided c room m = told (mapAnswer room c m) (gives c m)
+pub record Decided (c : Call) (room : ℕ) (m : MapStore) (a : Reply) : Type 0 where
+  pub reply : a ≡ told (mapAnswer room c m) (gives c m)
 
 -- begin, update, abort: the answer, and the head as an accepted call makes it, or as it was
 pub record Answered (c : Call) (h : MapHead) (cs : Columns) (a : Reply) (head : MapHead) : Type 0 where

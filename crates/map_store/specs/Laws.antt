@@ -28,15 +28,15 @@ use Rattle.map_store.specs.declared.Outcome.{Outcome}
 use Rattle.map_store.specs.Meaning.{MapStore, mapAnswer, gives}
 use Rattle.map_store.specs.Shape.{lengths, isShaped, roomOf, meaning}
 use Rattle.map_store.specs.Heads.{headAfter}
-use Rattle.map_store.specs.Contracts.{shapedNumber, number, decided, Answered}
+use Rattle.map_store.specs.Contracts.{shapedNumber, number, Decided, Answered}
 use Rattle.map_store.specs.Tests.{say, begin-numbered}
 
 -- the slot that was found is the place of the transaction, and its rows are in order
-module _ (h : Slots) (n : ℕ) (f : Found) (e : f ≡ slotOf h n) where
+module _ (h : Slots) (n : ℕ) {f : Found} (e : f ≡ slotOf h n) where
   pub place-none : f ≡ Nothing → placeOf n (placesOf h) ≡ free
   place-none g = place-slot h n ∙ ap (placeIn h) (sym e ∙ g)
 
-  module _ (i : ℕ) (g : f ≡ At i) where
+  module _ {i : ℕ} (g : f ≡ At i) where
     pub place-found : placeOf n (placesOf h) ≡ takenBy (slotAt h i)
     place-found = place-slot h n ∙ ap (placeIn h) (sym e ∙ g)
 
@@ -49,6 +49,10 @@ module _ (h : MapHead) (cs : Columns) (f : MapStore → ℕ) where
 
   pub number-good : isShaped h (lengths cs) ≡ true → shapedNumber h cs f ≡ f (meaning h cs)
   number-good e = ap (λ (b : Bool). cond b (f (meaning h cs)) 1) e
+
+-- the number of what was decided
+pub decided-number : {c : Call} {room : ℕ} {m : MapStore} {a : Reply} → Decided c room m a → a .number ≡ mapAnswer room c m
+decided-number d = ap (λ (r : Reply). r .number) (d .reply)
 
 -- the number on the cells is that on the meaning, for which a reply was decided
 module _ (cells means : ℕ) (v : Value) (e : cells ≡ means) (a : Reply) (d : a ≡ told means v) where
@@ -63,7 +67,7 @@ module _ (cells means : ℕ) (v : Value) (e : cells ≡ means) (a : Reply) (d : 
     changed new old x p =
         p ∙ ap (λ (b : Bool). cond b new old) (y ∙ ap (λ (r : Reply). eqb (r .number) 0) d ∙ ap (λ (n : ℕ). eqb n 0) (sym e))
 
-module _ (c : Call) (h : MapHead) (cs : Columns) where
+module _ {c : Call} {h : MapHead} {cs : Columns} where
   -- a store of bad shape: refused, and nothing changes
   pub bad-shape : isShaped h (lengths cs) ≡ false → Answered c h cs (refused BadShape) h
   bad-shape e =
@@ -73,30 +77,29 @@ module _ (c : Call) (h : MapHead) (cs : Columns) where
         headed = after-refused BadShape (number c h cs) (headAfter c h (versionsOf (h .used) cs)) h q;
       }
 
-  module _ (shaped : isShaped h (lengths cs) ≡ true) (a : Reply)
-      (d : a ≡ decided c (roomOf (length (cs .keys))) (meaning h cs)) (accepted : Bool) (y : accepted ≡ eqb (a .number) 0) where
+  module _ (shaped : isShaped h (lengths cs) ≡ true) where
     -- what was decided and done is what the call answers
-    pub answered : (head : MapHead) → head ≡ cond accepted (headAfter c h (versionsOf (h .used) cs)) h → Answered c h cs a head
-    answered head p =
+    pub answered : {a : Reply} → Decided c (roomOf (length (cs .keys))) (meaning h cs) a → {accepted : Bool} → accepted ≡ eqb (a .number) 0
+        → {head : MapHead} → head ≡ cond accepted (headAfter c h (versionsOf (h .used) cs)) h → Answered c h cs a head
+    answered {a} d {accepted} y {head} p =
         let q = number-good h cs (mapAnswer (roomOf (length (cs .keys))) c) shaped in
         record {
-          reply = replied _ _ (gives c (meaning h cs)) q a d;
-          headed = changed _ _ (gives c (meaning h cs)) q a d accepted y _ _ head p;
+          reply = replied _ _ (gives c (meaning h cs)) q a (d .reply);
+          headed = changed _ _ (gives c (meaning h cs)) q a (d .reply) accepted y _ _ head p;
         }
 
-  module _ (shaped : isShaped h (lengths cs) ≡ true) (o : Outcome) where
     -- a call that is refused changes nothing
-    pub turned-down : (x : Refusal) → (o .head ≡ h) × (o .answer ≡ done.Refused x) → refused x ≡ decided c (roomOf (length (cs .keys))) (meaning h cs)
-        → Answered c h cs (ofDone (o .answer)) (o .head)
-    turned-down x r d = rw (r .0, r .1) (answered shaped (refused x) d false (sym (refused-some x)) h refl)
+    pub turned-down : (o : Outcome) (x : Refusal) → (o .head ≡ h) × (o .answer ≡ done.Refused x)
+        → Decided c (roomOf (length (cs .keys))) (meaning h cs) (refused x) → Answered c h cs (ofDone (o .answer)) (o .head)
+    turned-down o x r d = rw (r .0, r .1) (answered d (sym (refused-some x)) refl)
 
     -- one that is accepted leaves the head that it is to leave
-    pub carried-out : (head : MapHead) → (o .head ≡ head) × (o .answer ≡ done.Accepted) → accepted Absent ≡ decided c (roomOf (length (cs .keys))) (meaning h cs)
-        → head ≡ headAfter c h (versionsOf (h .used) cs) → Answered c h cs (ofDone (o .answer)) (o .head)
-    carried-out head r d e = rw (r .0, r .1) (answered shaped (accepted Absent) d true refl head e)
+    pub carried-out : (o : Outcome) (head : MapHead) → (o .head ≡ head) × (o .answer ≡ done.Accepted)
+        → Decided c (roomOf (length (cs .keys))) (meaning h cs) (accepted Absent) → head ≡ headAfter c h (versionsOf (h .used) cs)
+        → Answered c h cs (ofDone (o .answer)) (o .head)
+    carried-out o head r d e = rw (r .0, r .1) (answered d {accepted = true} refl e)
 
 -- an accepted begin has a number to give
-pub begin-next : (h : MapHead) (cs : Columns) (t : ℕ) (a : Reply) → a ≡ decided (Begin t) (roomOf (length (cs .keys))) (meaning h cs)
-    → (accepted : Bool) → accepted ≡ eqb (a .number) 0 → accepted ≡ true → h .next < numbersEnd
-begin-next h cs t a d accepted y f =
-    begin-numbered (meaning h cs) t (is-accepted _ _ (gives (Begin t) (meaning h cs)) refl a d accepted y f)
+pub begin-next : {t room : ℕ} {m : MapStore} {a : Reply} → Decided (Begin t) room m a → {accepted : Bool} → accepted ≡ eqb (a .number) 0
+    → accepted ≡ true → m .next < numbersEnd
+begin-next {t} {room} {m} {a} d {accepted} y f = begin-numbered m t (is-accepted _ _ (gives (Begin t) m) refl a (d .reply) accepted y f)

@@ -30,7 +30,7 @@ use Rattle.map_store.specs.Meaning.{MapStore, emptyMap, current, mapRefu
 use Rattle.map_store.specs.Shape.{emptyHead, lengths, Shaped, roomOf, meaning}
 use Rattle.map_store.specs.Heads.{begunHead, updatedHead, abortedHead, rowsIn, committedHead, stamped, keptHead}
 use Rattle.map_store.specs.ShapeLaws.{shaped-long, lent}
-use Rattle.map_store.specs.Laws.{place-none, place-found}
+use Rattle.map_store.specs.Laws.{place-none, place-found, decided-number}
 use Rattle.map_store.specs.Tests.{abort-unknown, update-unknown, commit-unknown, commit-fits}
 
 -- an empty head means the empty store
@@ -91,7 +91,7 @@ module _ (h : MapHead) (cs : Columns) (w : Shaped h (lengths cs)) where
         cases (slotOf (h .slots) n)
         (λ i g. rw g (ap placed (closed-places (h .slots) n g)))
         (λ g.
-        let z = abort-unknown (meaning h cs) n (place-none (h .slots) n _ refl g) in
+        let z = decided-number (abort-unknown {room = 0} {m = meaning h cs} (place-none (h .slots) n refl g)) in
         absurd (omega arith))
 
     pub abort-shaped : Shaped (abortedHead (slotOf (h .slots) n) h) (lengths cs)
@@ -112,7 +112,7 @@ module _ (h : MapHead) (cs : Columns) (w : Shaped h (lengths cs)) where
           cases (slotOf (h .slots) n)
           (λ i g.
           let s = slotAt (h .slots) i in
-          let p = place-found (h .slots) n _ refl i g in
+          let p = place-found (h .slots) n refl g in
           let test : Bool = hasKey k (slotRows s) || ltb (length (slotRows s)) mostKeys in
           let q : _≡_ {A = ℕ} (cond (eqb k 0) 3 (cond test 0 8)) 0 = rw p at e in
           let r : test ≡ true = has-row test (passed (eqb k 0) 3 (cond test 0 8) (omega arith) q .1) in
@@ -122,7 +122,7 @@ module _ (h : MapHead) (cs : Columns) (w : Shaped h (lengths cs)) where
           (orZero (applied x (current k (s .snapshot) (slotRows s) (versionsOf (h .used) cs))))
           (rw (length-rows (s .keys) (s .values) (s .count)) at r))))
           (λ g.
-          let z = update-unknown (meaning h cs) n (place-none (h .slots) n _ refl g) k x in
+          let z = decided-number (update-unknown {room = 0} {m = meaning h cs} (place-none (h .slots) n refl g) {k = k} {x = x}) in
           absurd (omega arith))
 
       pub update-shaped : Shaped (updatedHead k x (slotOf (h .slots) n) h (versionsOf (h .used) cs)) (lengths cs)
@@ -135,11 +135,11 @@ module _ (h : MapHead) (cs : Columns) (w : Shaped h (lengths cs)) where
       -- an accepted commit has a lent row for each key
       fits : (i : ℕ) → slotOf (h .slots) n ≡ At i → h .used + length (rowsIn (h .slots) (At i)) ≤ roomOf (length (cs .keys))
       fits i g =
-          rw (length-versions (h .used) cs, place-found (h .slots) n _ refl i g) at (commit-fits (roomOf (length (cs .keys))) n t (meaning h cs) e)
+          rw (length-versions (h .used) cs, place-found (h .slots) n refl g) at (commit-fits (roomOf (length (cs .keys))) n t (meaning h cs) e)
 
       unknown : slotOf (h .slots) n ≡ Nothing → ⊥
       unknown g =
-          let z = commit-unknown (meaning h cs) n (place-none (h .slots) n _ refl g) (roomOf (length (cs .keys))) t in
+          let z = decided-number (commit-unknown {room = roomOf (length (cs .keys))} {m = meaning h cs} (place-none (h .slots) n refl g) {t = t}) in
           omega arith
 
       pub commit-meaning : meaning (committedHead t (slotOf (h .slots) n) h) (stamped (h .used) t (rowsIn (h .slots) (slotOf (h .slots) n)) cs)
@@ -149,7 +149,7 @@ module _ (h : MapHead) (cs : Columns) (w : Shaped h (lengths cs)) where
           (λ i g.
           let l = fits i g in
           let r = min-le-right mostVersions (length (cs .keys)) in
-          rw (g, place-found (h .slots) n _ refl i g)
+          rw (g, place-found (h .slots) n refl g)
           (ap₂ (λ (ps : List Place) (vers : List Version). record { low = h .low; last = t; next = h .next; places = ps; versions = vers })
           (closed-places (h .slots) n g)
           (stamped-versions t (h .used) (rowsIn (h .slots) (At i)) cs

@@ -9,7 +9,7 @@ ghost use Rattle.answer.specs.Reply.{ofBegun};
 ghost use Rattle.versions.specs.Versions.{columns};
 ghost use Rattle.map_store.specs.Shape.{lengths, Shaped, meaning, roomOf};
 ghost use Rattle.map_store.specs.Heads.{begunHead};
-ghost use Rattle.map_store.specs.Contracts.{decided, Answered};
+ghost use Rattle.map_store.specs.Contracts.{Decided, Answered};
 use crate::MapHead;
 use crate::Started;
 use answer::Begun;
@@ -19,7 +19,7 @@ use slot::Slots;
 // What a store of good shape answers.
 fn decide(h: MapHead, keys: &[u32], times: &[u64], values: &[u32], t: u64) -> Begun
     requires { ⌜ Shaped h (lengths (columns (now keys) (now times) (now values))) ⌝ }
-    ensures { λ r. ⌜ ofBegun r ≡ decided (Begin t) (roomOf (length (now (keys .entry)))) (meaning h (columns (now (keys .entry)) (now (times .entry)) (now (values .entry)))) ⌝ }
+    ensures { λ r. ⌜ Decided (Begin t) (roomOf (length (now (keys .entry)))) (meaning h (columns (now (keys .entry)) (now (times .entry)) (now (values .entry)))) (ofBegun r) ⌝ }
 {
     if t < h.low {
         return Begun::Refused(Refusal::TooOld);

@@ -6,6 +6,8 @@ use Prim.Native.Nat.{ℕ, _/_}
 use native.Mathlib.Nat.{min-le-left, min-le-right}
 use native.Mathlib.Omega.{arith}
 use lib.ListN.{length}
+use borrow.Author.Needs.{needs}
+use denote.Ref.{now}
 use Rattle.rules.specs.declared.Record.{Record}
 use Rattle.rules.specs.Limits.{mostRecords}
 use Rattle.rules.specs.Kinds.{recordBytes}
@@ -13,8 +15,6 @@ use Rattle.record.specs.Bytes.{appended}
 use Rattle.journal_store.specs.declared.Head.{Head}
 use Rattle.journal_store.specs.Heads.{grown}
 use Rattle.journal_store.specs.Contracts.{Put}
-use borrow.Author.Needs.{needs}
-use denote.Ref.{now}
 use Rattle.journal_store.proofs.put.Statement.{statement}
 use Rattle.journal_store.proofs.put.Tie as tie
 

@@ -1,8 +1,8 @@
 -- `journal_store::abort::decide` meets its contract: a law for each way out. Assumes nothing.
+use borrow.Author.Needs.{needs}
 use Rattle.rules.specs.Bools.{failed, stood}
 use Rattle.record.specs.Laws.{length-records}
 use Rattle.journal_store.specs.Tests.{abort-unknown, abort-room}
-use borrow.Author.Needs.{needs}
 use Rattle.journal_store.proofs.abort.decide.Statement.{statement}
 use Rattle.journal_store.proofs.abort.decide.Tie as tie
 

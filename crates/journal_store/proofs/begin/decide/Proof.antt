@@ -1,8 +1,8 @@
 -- `journal_store::begin::decide` meets its contract: a law for each way out. Assumes nothing.
 use mathlib.Core.Path.{sym, _∙_}
+use borrow.Author.Needs.{needs}
 use Rattle.record.specs.Laws.{length-records}
 use Rattle.journal_store.specs.Tests.{begin-old, begin-future, begin-many, begin-numbers, begin-room, begin-begun}
-use borrow.Author.Needs.{needs}
 use Rattle.journal_store.proofs.begin.decide.Statement.{statement}
 use Rattle.journal_store.proofs.begin.decide.Tie as tie
 

@@ -1,12 +1,12 @@
 -- `journal_store::commit::decide` meets its contract: a law for each way out. Assumes nothing.
 use mathlib.Core.Path.{sym, _∙_}
+use borrow.Author.Needs.{needs}
+use denote.Ref.{now}
+use Rattle.rules.specs.Bools.{failed, stood}
 use Rattle.record.specs.Bytes.{recordsIn}
 use Rattle.record.specs.Laws.{length-records}
 use Rattle.journal.specs.Past.{past-last}
-use Rattle.rules.specs.Bools.{failed, stood}
 use Rattle.journal_store.specs.Tests.{commit-unknown, commit-later, commit-conflict, commit-room}
-use denote.Ref.{now}
-use borrow.Author.Needs.{needs}
 use Rattle.journal_store.proofs.commit.decide.Statement.{statement}
 use Rattle.journal_store.proofs.commit.decide.Tie as tie
 

@@ -1,7 +1,7 @@
 -- `journal_store::lookup::lookup` meets its contract: the shape test, then what was decided. Assumes nothing.
+use borrow.Author.Needs.{needs}
 use Rattle.rules.specs.Bools.{failed, stood}
 use Rattle.journal_store.specs.ShapeLaws.{shape}
-use borrow.Author.Needs.{needs}
 use Rattle.journal_store.proofs.lookup.lookup.Statement.{statement}
 use Rattle.journal_store.proofs.lookup.lookup.Tie as tie
 

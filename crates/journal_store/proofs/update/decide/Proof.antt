@@ -1,8 +1,8 @@
 -- `journal_store::update::decide` meets its contract: a law for each way out. Assumes nothing.
+use borrow.Author.Needs.{needs}
 use Rattle.rules.specs.Bools.{failed, stood}
 use Rattle.record.specs.Laws.{length-records}
 use Rattle.journal_store.specs.Tests.{update-unknown, update-key, update-full, update-room}
-use borrow.Author.Needs.{needs}
 use Rattle.journal_store.proofs.update.decide.Statement.{statement}
 use Rattle.journal_store.proofs.update.decide.Tie as tie
 

@@ -1,9 +1,9 @@
 -- `journal_store::update::update` meets its contract: what was decided is put. Assumes nothing.
+use borrow.Author.Needs.{needs}
 use Rattle.rules.specs.Bools.{failed, stood}
 use Rattle.record.specs.Laws.{length-records}
 use Rattle.journal_store.specs.ShapeLaws.{shape}
 use Rattle.journal_store.specs.Laws.{bad-shape, has-room, wrote}
-use borrow.Author.Needs.{needs}
 use Rattle.journal_store.proofs.update.update.Statement.{statement}
 use Rattle.journal_store.proofs.update.update.Tie as tie
 

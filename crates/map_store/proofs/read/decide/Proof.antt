@@ -28,7 +28,7 @@ returns c =
     let cs = columns (now (a .keys)) (now (a .times)) (now (a .values)) in
     let m = meaning (a .h) cs in
     say 3 (readRefusal (a .n) (a .k) m) (readIn (a .n) (a .k) m)
-    (read-key m (a .n) _ _ _ (place-found (a .h .slots) (a .n) _ (fd .find .ensures .0) _ (at .i .given .1)) (a .k) (c .if1 .taken))
+    (read-key m (a .n) (a .k) _ _ _ (place-found (a .h .slots) (a .n) (fd .find .ensures .0) (at .i .given .1)) (c .if1 .taken))
 
 at-requires : tie.Need-at-requires
 at-requires c κs =
@@ -44,7 +44,7 @@ current-value-requires c κs =
     let st = fd .before .before .before .before .before in
     let a = st .args in
     let cs = columns (now (a .keys)) (now (a .times)) (now (a .values)) in
-    (rw (sl .at .ensures) (rowed-found (a .h .slots) (a .n) _ (fd .find .ensures .0) _ (at .i .given .1) (st .pre .formed)), lent (a .h) cs (st .pre))
+    (rw (sl .at .ensures) (rowed-found (a .h .slots) (a .n) (fd .find .ensures .0) (at .i .given .1) (st .pre .formed)), lent (a .h) cs (st .pre))
 
 returns-2 : tie.Need-returns-2
 returns-2 c =
@@ -55,8 +55,8 @@ returns-2 c =
     let a = fd .before .before .before .before .before .args in
     let cs = columns (now (a .keys)) (now (a .times)) (now (a .values)) in
     let m = meaning (a .h) cs in
-    say-value (readRefusal (a .n) (a .k) m) _ (readIn (a .n) (a .k) m) (reads m (a .n) (a .k) (sl .at .result) (place-found (a .h .slots) (a .n) _ (fd .find .ensures .0) _ (at .i .given .1) ∙ ap takenBy (sym (sl .at .ensures))) _ (c .current-value .ensures))
-    (read-done m (a .n) _ _ _ (place-found (a .h .slots) (a .n) _ (fd .find .ensures .0) _ (at .i .given .1)) (a .k) (e1 .if1 .left))
+    say-value (readRefusal (a .n) (a .k) m) _ (readIn (a .n) (a .k) m) (reads m (a .n) (a .k) (sl .at .result) (place-found (a .h .slots) (a .n) (fd .find .ensures .0) (at .i .given .1) ∙ ap takenBy (sym (sl .at .ensures))) _ (c .current-value .ensures))
+    (read-done m (a .n) (a .k) _ _ _ (place-found (a .h .slots) (a .n) (fd .find .ensures .0) (at .i .given .1)) (e1 .if1 .left))
 
 returns-3 : tie.Need-returns-3
 returns-3 c =
@@ -66,7 +66,7 @@ returns-3 c =
     let cs = columns (now (a .keys)) (now (a .times)) (now (a .values)) in
     let m = meaning (a .h) cs in
     say 2 (readRefusal (a .n) (a .k) m) (readIn (a .n) (a .k) m)
-    (read-unknown m (a .n) (place-none (a .h .slots) (a .n) _ (fd .find .ensures .0) (c .enum-told .given .1)) (a .k))
+    (read-unknown m (a .n) (a .k) (place-none (a .h .slots) (a .n) (fd .find .ensures .0) (c .enum-told .given .1)))
 
 pub decide-spec : {M : Type 1} → statement M
 decide-spec =
