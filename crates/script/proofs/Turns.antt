@@ -1,5 +1,5 @@
 -- A turn of each loop of this crate: what is left completes to the answer, before it and after it. Assumes nothing.
-use mathlib.Core.Path.{_≡_}
+use mathlib.Core.Path.{_≡_, refl}
 use mathlib.Core.List.{List}
 use Prim.Native.Nat.{ℕ, suc, _+_, _-_, _<_, _≤_}
 use native.Mathlib.Numerals.{add-one}
@@ -30,13 +30,23 @@ module _ (script : List ℕ) (start x : ℕ) (r : Reading) (i : ℕ) (l : Line) 
       let z : length script - i ≡ 0 = omega arith in
       rw z at h
 
--- a cell is added to a sum, or the column ends
-module _ (column : List ℕ) (s i sum : ℕ) (h : total s (drop i column) ≡ sum) where
-  pub cell-added : i < length column → (next : ℕ) → next ≡ more s (getD column i 0) → total next (drop (i + 1) column) ≡ sum
-  cell-added b next e = rw (e, add-one) (rw (drop-cons column i 0 b) at h)
+-- a sum that what is left of its column completes
+pub record Adding (sum : ℕ) (column : List ℕ) (s i : ℕ) : Type 0 where
+  pub within : i ≤ length column
+  pub completes : total s (drop i column) ≡ total sum column
 
-  pub column-ends : i ≡ length column → s ≡ sum
-  column-ends e = rw (e, drop-length) at h
+-- nothing is added yet, a cell is added, or the column ends
+pub starts : {sum : ℕ} {column : List ℕ} → Adding sum column sum 0
+starts = record { within = omega arith; completes = refl }
+
+module _ {sum : ℕ} {column : List ℕ} {s i : ℕ} (h : Adding sum column s i) where
+  pub added : i < length column → {next : ℕ} → next ≡ more s (getD column i 0) → Adding sum column next (i + 1)
+  added b e = record { within = omega arith; completes = rw (e, add-one) (rw (drop-cons column i 0 b) at (h .completes)) }
+
+  pub ends : length column ≤ i → s ≡ total sum column
+  ends b =
+      let e : i ≡ length column = omega arith in
+      rw (e, drop-length) at (h .completes)
 
 -- a byte is filled
 pub byte-filled : (value : ℕ) (bytes : List ℕ) (i end : ℕ) (all : List ℕ) → fillOn value bytes i (end - i) ≡ all → i < end

@@ -4,15 +4,6 @@ use borrow.Author.Needs.{needs}
 use Rattle.journal_recovery.proofs.shaped.Statement.{statement}
 use Rattle.journal_recovery.proofs.shaped.Tie as tie
 
-returns : tie.Need-returns
-returns c = rw (lt-leb _ _ (c .if1 .taken))
-
-returns-2 : tie.Need-returns-2
-returns-2 c = rw (le-leb _ _ (c .before .if1 .left), lt-leb _ _ (c .if2 .taken))
-
-returns-3 : tie.Need-returns-3
-returns-3 c = rw (le-leb _ _ (c .before .before .if1 .left), le-leb _ _ (c .before .if2 .left), ne-eqb _ _ (c .if3 .taken))
-
 returns-4 : tie.Need-returns-4
 returns-4 c =
     let e3 = c .before in
@@ -47,4 +38,6 @@ returns-7 c =
     rw (le-leb _ _ (e1 .if1 .left), le-leb _ _ (e2 .if2 .left), eq-eqb _ _ (e3 .if3 .left), le-leb _ _ (e4 .if4 .left), le-leb _ _ (e5 .if5 .left), ne-eqb _ _ (c .before .if6 .left)) (c .rises .ensures)
 
 pub shaped-spec : {M : Type 1} → statement M
-shaped-spec = tie.close (tie.spec returns returns-2 returns-3 (λ c. search needs) returns-4 returns-5 returns-6 (λ c κs. search needs) returns-7)
+shaped-spec =
+    tie.close (tie.spec (λ c. rw (lt-leb _ _ (c .if1 .taken))) (λ c. rw (le-leb _ _ (c .before .if1 .left), lt-leb _ _ (c .if2 .taken)))
+    (λ c. rw (le-leb _ _ (c .before .before .if1 .left), le-leb _ _ (c .before .if2 .left), ne-eqb _ _ (c .if3 .taken))) (λ c. search needs) returns-4 returns-5 returns-6 (λ c κs. search needs) returns-7)

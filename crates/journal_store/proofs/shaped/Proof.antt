@@ -3,47 +3,15 @@ use borrow.Author.Tests.{eq-eqb, ne-eqb, le-leb, lt-leb}
 use Rattle.journal_store.proofs.shaped.Statement.{statement}
 use Rattle.journal_store.proofs.shaped.Tie as tie
 
-returns : tie.Need-returns
-returns c = rw (lt-leb _ _ (c .if1 .taken))
-
-returns-2 : tie.Need-returns-2
-returns-2 c = rw (le-leb _ _ (c .before .if1 .left), lt-leb _ _ (c .if2 .taken))
-
-returns-3 : tie.Need-returns-3
-returns-3 c = rw (le-leb _ _ (c .before .before .if1 .left), le-leb _ _ (c .before .if2 .left), ne-eqb _ _ (c .if3 .taken))
-
-returns-4 : tie.Need-returns-4
-returns-4 c =
-    let e3 = c .before in
-    let e2 = e3 .before in
-    rw (le-leb _ _ (e2 .before .if1 .left), le-leb _ _ (e2 .if2 .left), eq-eqb _ _ (e3 .if3 .left), lt-leb _ _ (c .if4 .taken))
-
-returns-5 : tie.Need-returns-5
-returns-5 c =
-    let e4 = c .before in
-    let e3 = e4 .before in
-    let e2 = e3 .before in
-    rw (
-      le-leb _ _ (e2 .before .if1 .left),
-      le-leb _ _ (e2 .if2 .left),
-      eq-eqb _ _ (e3 .if3 .left),
-      le-leb _ _ (e4 .if4 .left),
-      lt-leb _ _ (c .if5 .taken),
-    )
-
-returns-6 : tie.Need-returns-6
-returns-6 c =
-    let e5 = c .before in
-    let e4 = e5 .before in
-    let e3 = e4 .before in
-    let e2 = e3 .before in
-    rw (
-      le-leb _ _ (e2 .before .if1 .left),
-      le-leb _ _ (e2 .if2 .left),
-      eq-eqb _ _ (e3 .if3 .left),
-      le-leb _ _ (e4 .if4 .left),
-      le-leb _ _ (e5 .if5 .left),
-    )
-
 pub shaped-spec : {M : Type 1} → statement M
-shaped-spec = tie.close (tie.spec returns returns-2 returns-3 returns-4 returns-5 returns-6)
+shaped-spec =
+    tie.close (tie.spec (λ c. rw (lt-leb _ _ (c .if1 .taken))) (λ c. rw (le-leb _ _ (c .before .if1 .left), lt-leb _ _ (c .if2 .taken)))
+    (λ c. rw (le-leb _ _ (c .before .before .if1 .left), le-leb _ _ (c .before .if2 .left), ne-eqb _ _ (c .if3 .taken)))
+    (λ c. let e2 = c .before .before in rw (le-leb _ _ (e2 .before .if1 .left), le-leb _ _ (e2 .if2 .left), eq-eqb _ _ (c .before .if3 .left), lt-leb _ _ (c .if4 .taken)))
+    (λ c.
+    let e3 = c .before .before in
+    rw (le-leb _ _ (e3 .before .before .if1 .left), le-leb _ _ (e3 .before .if2 .left), eq-eqb _ _ (e3 .if3 .left), le-leb _ _ (c .before .if4 .left), lt-leb _ _ (c .if5 .taken)))
+    (λ c.
+    let e4 = c .before .before in
+    let e2 = e4 .before .before in
+    rw (le-leb _ _ (e2 .before .if1 .left), le-leb _ _ (e2 .if2 .left), eq-eqb _ _ (e4 .before .if3 .left), le-leb _ _ (e4 .if4 .left), le-leb _ _ (c .before .if5 .left))))
