@@ -30,8 +30,8 @@ use Rattle.journal_store.specs.declared.Head.{Head}
 use Rattle.journal_store.specs.Shape.{isShaped, Shaped, roomOf, rowRoom, meaning, SizedCall}
 use Rattle.journal_store.specs.Heads.{grown, checkpointHead, recoveredHead}
 use Rattle.journal_store.specs.Contracts.{Wrote, number, checkpointNumber, risingKeys, journalBytes, isRecoverable, surviving, recoverReply, Recoverable, Recovered}
-use Rattle.journal_store.specs.Laws.{room-left, need-some, recoverable}
-use Rattle.journal_store.specs.ShapeLaws.{shape}
+use Rattle.journal_store.specs.Laws.{room-left, need-some}
+use Rattle.journal_store.specs.ShapeLaws.{shape, recoverable}
 use Rattle.journal_store.specs.MeaningLaws.{fit-call, push-meaning, call-shaped, checkpoint-meaning, checkpoint-shaped, recover-meaning, recover-shaped}
 use Rattle.history.specs.History.{Deed, Did, Checkpointed, restarted}
 use Rattle.history.specs.Course.{Course, lose, recovered}

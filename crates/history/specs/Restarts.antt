@@ -30,7 +30,7 @@ use Rattle.walk.specs.Judged.{whole-walk}
 use Rattle.journal_store.specs.declared.Head.{Head}
 use Rattle.journal_store.specs.Heads.{recoveredHead}
 use Rattle.journal_store.specs.Contracts.{lookupDecided, shapedReply, ListedBy, risingKeys, journalBytes, isRecoverable, surviving, walkedReply, recoverReply, Recovered}
-use Rattle.journal_store.specs.Laws.{recoverable}
+use Rattle.journal_store.specs.ShapeLaws.{recoverable}
 use Rattle.journal_store.specs.MeaningLaws.{recover-meaning}
 use Rattle.history.specs.History.{Deed, numbers, history, restarted, valueIn, listIn}
 use Rattle.history.specs.Refusals.{timeRefused, lookupNumber}

@@ -1,23 +1,21 @@
--- What each way out of a call has to show for its contract. Assumes nothing.
+-- How a call's parts make its contract: what was decided on the meaning, then done to the cells if it was accepted. Assumes nothing.
 use mathlib.Core.Path.{_≡_, sym, ap, _∙_, refl}
-use mathlib.Core.Bool.{Bool, true, false, cond, _&&_, not}
+use mathlib.Core.Bool.{Bool, true, false, cond}
 use mathlib.Core.List.{List, _++_}
 use Prim.Native.Nat.{ℕ, _+_, _*_, _≤_, _<_}
 use native.Mathlib.Omega.{arith}
-use lib.Dec.{eqb, ltb, leb}
-use lib.ListN.{length, drop, take}
-use borrow.Author.Tests.{eqb-true, lt-ltb, le-ltb, eq-eqb, ne-eqb, le-leb, lt-leb, leb-true}
+use lib.Dec.{eqb}
+use lib.ListN.{length, drop}
+use borrow.Author.Tests.{eqb-true, le-leb, lt-leb}
 use Rattle.rules.specs.declared.Record.{Record}
-use Rattle.rules.specs.Bools.{split, and-left, and-right}
+use Rattle.rules.specs.Bools.{split}
 use Rattle.rules.specs.Kinds.{recordBytes}
 use Rattle.rules.specs.Passed.{fitting}
-use Rattle.rules.specs.Calls.{Store, Call, refusal, need, answer, recordOf, gives, lastOf, runsIn, valueOf, readOf, listOf, listAnswer, withRoom, checkpointRefusal, checkpointAnswer, heldIn}
-use Rattle.rules.specs.declared.Value.{Value}
+use Rattle.rules.specs.Calls.{Store, Call, Begin, Update, Abort, Commit, refusal, need, answer, recordOf, gives, listOf, listAnswer, withRoom, checkpointRefusal, checkpointAnswer}
 use Rattle.rules.specs.declared.Value.the-variants.{Absent, Present}
 use Rattle.rules.specs.Lists.{rowKeys}
 use Rattle.rules.specs.Columns.{rowValues, Filled}
 use Rattle.rules.specs.Checkpoints.{kept}
-use Rattle.rules.specs.Limits.{mostRows}
 use Rattle.rules.specs.declared.Walked.{Walked}
 use Rattle.rules.specs.declared.Walked.the-variants.{Whole, BadAt}
 use Rattle.rules.specs.Recovery.{walk, survivors}
@@ -28,20 +26,19 @@ use Rattle.answer.specs.Laws.{after-refused, refused-some}
 use Rattle.answer.specs.declared.Refusal.{Refusal}
 use Rattle.compact.specs.Compact.{compacted}
 use Rattle.journal_store.specs.declared.Head.{Head}
-use Rattle.journal_store.specs.Shape.{isShaped, roomOf, meaning, Shaped, rowRoom}
+use Rattle.journal_store.specs.Shape.{isShaped, roomOf, meaning, rowRoom}
 use Rattle.journal_store.specs.Heads.{grown, checkpointHead, recoveredHead}
-use Rattle.journal_store.specs.ShapeLaws.{shape}
-use Rattle.journal_store.specs.Contracts.{Put, Decided, number, Wrote, readDecided, lookupDecided, shapedReply, listDecided, isListShaped, listNumber, ListedBy, checkpointNumber, Checkpointed, risingKeys, journalBytes, isRecoverable, surviving, recoverReply, Recovered, Recoverable}
+use Rattle.journal_store.specs.Contracts.{Put, Decided, number, Wrote, shapedReply, listDecided, isListShaped, listNumber, ListedBy, checkpointNumber, Checkpointed, isRecoverable, surviving, recoverReply, Recovered}
 
 -- an accepted call has the room that it needs
 pub room-left : (room : ℕ) (c : Call) (s : Store) → answer room c s ≡ 0 → length (s .records) + need c s ≤ room
 room-left room c s h = fitting (refusal c s) (length (s .records) + need c s) room h .1
 
 pub need-some : (c : Call) (s : Store) → 1 ≤ need c s
-need-some (Rattle.rules.specs.Calls.Begin t) s = omega arith
-need-some (Rattle.rules.specs.Calls.Update n k e) s = omega arith
-need-some (Rattle.rules.specs.Calls.Abort n) s = omega arith
-need-some (Rattle.rules.specs.Calls.Commit n t) s = omega arith
+need-some (Begin t) s = omega arith
+need-some (Update n k e) s = omega arith
+need-some (Abort n) s = omega arith
+need-some (Commit n t) s = omega arith
 
 -- an accepted call has room for its record
 pub has-room : {c : Call} {room used : ℕ} {s : Store} {a : Reply} {accepted : Bool} → Decided c room s a → accepted ≡ eqb (a .number) 0
@@ -91,61 +88,6 @@ pub reply-good : (h : Head) (keys values j : List ℕ) (decided : Store → Repl
     → r ≡ decided (meaning h keys values j) → r ≡ shapedReply h keys values j decided
 reply-good h keys values j decided r e d = rw e d
 
--- the ways out of a read
-module _ (n k : ℕ) (s : Store) (b : Bool) (e : b ≡ runsIn n s) where
-  pub read-unknown : b ≡ false → told 2 (readOf n k s) ≡ readDecided n k s
-  read-unknown f = rw (sym e ∙ f)
-
-  module _ (f : b ≡ true) where
-    pub read-key : k ≡ 0 → told 3 (readOf n k s) ≡ readDecided n k s
-    read-key z = rw (sym e ∙ f, eq-eqb k 0 z)
-
-    pub read-value : (k ≡ 0 → ⊥) → (v : Value) → v ≡ readOf n k s → accepted v ≡ readDecided n k s
-    read-value z v g = rw (sym e ∙ f, ne-eqb k 0 z, g)
-
--- the ways out of a lookup
-module _ (k t : ℕ) (s : Store) where
-  pub lookup-key : k ≡ 0 → told 3 (valueOf k t s) ≡ lookupDecided k t s
-  lookup-key z = rw (eq-eqb k 0 z)
-
-  module _ (z : k ≡ 0 → ⊥) where
-    pub lookup-old : t < s .low → told 4 (valueOf k t s) ≡ lookupDecided k t s
-    lookup-old a = rw (ne-eqb k 0 z, lt-ltb t (s .low) a)
-
-    module _ (a : s .low ≤ t) (f : Bool) (e : f ≡ ltb (lastOf s) t) where
-      pub lookup-future : f ≡ true → told 5 (valueOf k t s) ≡ lookupDecided k t s
-      lookup-future b = rw (ne-eqb k 0 z, le-ltb t (s .low) a, sym e ∙ b)
-
-      pub lookup-value : f ≡ false → (v : Value) → v ≡ valueOf k t s → accepted v ≡ lookupDecided k t s
-      lookup-value b v g = rw (ne-eqb k 0 z, le-ltb t (s .low) a, sym e ∙ b, g)
-
--- what a good shape says
-module _ (h : Head) (keys values bytes listed contents : ℕ) (e : isListShaped h keys values bytes listed contents ≡ true) where
-  pub list-shape : Shaped h keys values bytes
-  list-shape = shape (and-right (eqb listed contents) (isShaped h keys values bytes) e)
-
-  pub list-paired : listed ≡ contents
-  list-paired = eqb-true listed contents (and-left (eqb listed contents) (isShaped h keys values bytes) e)
-
--- the ways out of the tests
-module _ (room t : ℕ) (s : Store) where
-  pub list-old : t < s .low → told 4 (Present (length (listOf t s))) ≡ listDecided room t s
-  list-old a = rw (lt-ltb t (s .low) a)
-
-  module _ (a : s .low ≤ t) (f : Bool) (e : f ≡ ltb (lastOf s) t) where
-    pub list-future : f ≡ true → told 5 (Present (length (listOf t s))) ≡ listDecided room t s
-    list-future b = rw (le-ltb t (s .low) a, sym e ∙ b)
-
-    module _ (b : f ≡ false) (n : ℕ) (g : n ≡ length (listOf t s)) where
-      list-number : (m : ℕ) → listAnswer room t s ≡ m → told m (Present (length (listOf t s))) ≡ listDecided room t s
-      list-number m q = sym (ap (λ (x : ℕ). told x (Present (length (listOf t s)))) q)
-
-      pub list-room : room < n → told 12 (Present (length (listOf t s))) ≡ listDecided room t s
-      list-room h = list-number 12 (rw (le-ltb t (s .low) a, sym e ∙ b, ← g, lt-leb n room h))
-
-      pub list-rows : n ≤ room → accepted (Present n) ≡ listDecided room t s
-      list-rows h = ap (λ (x : ℕ). accepted (Present x)) g ∙ list-number 0 (rw (le-ltb t (s .low) a, sym e ∙ b, ← g, le-leb n room h))
-
 module _ (h : Head) (keys values j : List ℕ) (t : ℕ) (listed contents : List ℕ) where
   -- a bad shape: refused, and nothing changes
   pub list-bad : isListShaped h (length keys) (length values) (length j) (length listed) (length contents) ≡ false
@@ -177,22 +119,6 @@ module _ (h : Head) (keys values j : List ℕ) (t : ℕ) (listed contents : List
     list-refused e =
         let z : eqb (listNumber h keys values j t (length listed) (length contents)) 0 ≡ false = ap (λ (n : ℕ). eqb n 0) list-counted ∙ e in
         record { reply = replied; keys-column = rw z; values-column = rw z }
-
--- the ways out of the tests before the room
-module _ (t : ℕ) (s : Store) where
-  pub checkpoint-old : t < s .low → told 4 Absent ≡ told (checkpointRefusal t s) Absent
-  checkpoint-old a = rw (lt-ltb t (s .low) a)
-
-  module _ (a : s .low ≤ t) (i : Bool) (e : i ≡ ltb (lastOf s) t) where
-    pub checkpoint-future : i ≡ true → told 5 Absent ≡ told (checkpointRefusal t s) Absent
-    checkpoint-future b = rw (le-ltb t (s .low) a, sym e ∙ b)
-
-    module _ (b : i ≡ false) (d : Bool) (g : d ≡ heldIn t s) where
-      pub checkpoint-held : d ≡ true → told 9 Absent ≡ told (checkpointRefusal t s) Absent
-      checkpoint-held f = rw (le-ltb t (s .low) a, sym e ∙ b, sym g ∙ f)
-
-      pub checkpoint-clear : d ≡ false → told 0 Absent ≡ told (checkpointRefusal t s) Absent
-      checkpoint-clear f = rw (le-ltb t (s .low) a, sym e ∙ b, sym g ∙ f)
 
 module _ (t : ℕ) (h : Head) (keys values j : List ℕ) where
   -- a call that gets a refusal's number changes nothing
@@ -250,22 +176,6 @@ module _ (t : ℕ) (h : Head) (keys values j : List ℕ) where
       checkpoint-written head keys' values' exit l f g i =
           let z : checkpointNumber t h keys values j ≡ 0 = answered ∙ rw (e, ← q, le-leb n (rowRoom (length keys)) l) in
           record { reply = rw z; headed = rw z f; keys-column = rw z (g .keys-column); values-column = rw z (g .values-column); cells = rw z i }
-
-pub recoverable : (h : Head) (keys : List ℕ) (values bytes survived : ℕ) → isRecoverable h keys values bytes survived ≡ true → Recoverable bytes survived
-recoverable h keys values bytes survived e =
-    let a = leb (h .base .rows) mostRows in
-    let b = leb (h .base .rows) (length keys) in
-    let c = eqb (length keys) values in
-    let d = leb survived journalBytes in
-    let f = leb survived bytes in
-    let g = not (eqb (h .floor) 0) && risingKeys 0 (take (h .base .rows) keys) in
-    let e3 = and-right c (d && (f && g)) (and-right b (c && (d && (f && g))) (and-right a (b && (c && (d && (f && g)))) e)) in
-    let most = leb-true survived journalBytes (and-left d (f && g) e3) in
-    record {
-      few = omega arith;
-      there = omega arith;
-      within = leb-true survived bytes (and-left f g (and-right d (f && g) e3));
-    }
 
 module _ (h : Head) (keys values j : List ℕ) (survived : ℕ) where
   -- refused with a number other than 0: nothing changes

@@ -1,6 +1,6 @@
 -- What the tests of a call, made in section 6's order, let it answer: on any store, one law for each way out. Assumes nothing.
-use mathlib.Core.Path.{_≡_, sym, ap}
-use mathlib.Core.Bool.{true, false}
+use mathlib.Core.Path.{_≡_, sym, ap, _∙_}
+use mathlib.Core.Bool.{true, false, Bool}
 use Prim.Native.Nat.{ℕ, _+_, _<_, _≤_}
 use lib.Dec.{ltb}
 use lib.ListN.{length}
@@ -8,9 +8,10 @@ use borrow.Author.Tests.{lt-ltb, le-ltb, le-leb, lt-leb, eq-eqb, ne-eqb}
 use Rattle.rules.specs.Limits.{mostRunning, numbersEnd}
 use Rattle.rules.specs.declared.Value.the-variants.{Absent, Present}
 use Rattle.rules.specs.declared.Effect.{Effect}
-use Rattle.rules.specs.Calls.{Store, Call, Begin, Update, Abort, Commit, refusal, need, withRoom, answer, gives, lastOf, nextOf, runningOf, runsIn, mayWriteIn, conflictIn}
+use Rattle.rules.specs.Calls.{Store, Call, Begin, Update, Abort, Commit, refusal, need, withRoom, answer, gives, lastOf, nextOf, runningOf, runsIn, mayWriteIn, conflictIn, valueOf, readOf, listOf, listAnswer, checkpointRefusal, heldIn}
+use Rattle.rules.specs.declared.Value.{Value}
 use Rattle.answer.specs.Reply.{Reply, accepted, told}
-use Rattle.journal_store.specs.Contracts.{Decided}
+use Rattle.journal_store.specs.Contracts.{Decided, readDecided, lookupDecided, listDecided}
 
 -- a begin that no test before the room refuses
 begin-passes : (s : Store) (t : ℕ) → s .low ≤ t → ltb (lastOf s) t ≡ false → (r : ℕ) → r ≡ length (runningOf s) → r < mostRunning
@@ -88,3 +89,66 @@ module _ {room : ℕ} {s : Store} where
           pub update-room : mayWriteIn n k s ≡ true → {r : ℕ} → r ≡ length (runningOf s) → {used : ℕ} → length (s .records) ≡ used
               → {a : Reply} → a ≡ told (withRoom 0 (used + (1 + r)) room) Absent → Decided (Update n k x) room s a
           update-room h m u o = fits (Update n k x) (rw (f, ne-eqb k 0 z, h)) u (rw m at o)
+
+-- the ways out of a read
+module _ (n k : ℕ) (s : Store) where
+  pub read-unknown : runsIn n s ≡ false → told 2 (readOf n k s) ≡ readDecided n k s
+  read-unknown f = rw f
+
+  module _ (f : runsIn n s ≡ true) where
+    pub read-key : k ≡ 0 → told 3 (readOf n k s) ≡ readDecided n k s
+    read-key z = rw (f, eq-eqb k 0 z)
+
+    pub read-value : (k ≡ 0 → ⊥) → {v : Value} → v ≡ readOf n k s → accepted v ≡ readDecided n k s
+    read-value z g = rw (f, ne-eqb k 0 z, g)
+
+-- the ways out of a lookup
+module _ (k t : ℕ) (s : Store) where
+  pub lookup-key : k ≡ 0 → told 3 (valueOf k t s) ≡ lookupDecided k t s
+  lookup-key z = rw (eq-eqb k 0 z)
+
+  module _ (z : k ≡ 0 → ⊥) where
+    pub lookup-old : t < s .low → told 4 (valueOf k t s) ≡ lookupDecided k t s
+    lookup-old a = rw (ne-eqb k 0 z, lt-ltb t (s .low) a)
+
+    module _ (a : s .low ≤ t) (f : Bool) (e : f ≡ ltb (lastOf s) t) where
+      pub lookup-future : f ≡ true → told 5 (valueOf k t s) ≡ lookupDecided k t s
+      lookup-future b = rw (ne-eqb k 0 z, le-ltb t (s .low) a, sym e ∙ b)
+
+      pub lookup-value : f ≡ false → (v : Value) → v ≡ valueOf k t s → accepted v ≡ lookupDecided k t s
+      lookup-value b v g = rw (ne-eqb k 0 z, le-ltb t (s .low) a, sym e ∙ b, g)
+
+-- the ways out of a list
+module _ (room t : ℕ) (s : Store) where
+  pub list-old : t < s .low → told 4 (Present (length (listOf t s))) ≡ listDecided room t s
+  list-old a = rw (lt-ltb t (s .low) a)
+
+  module _ (a : s .low ≤ t) (f : Bool) (e : f ≡ ltb (lastOf s) t) where
+    pub list-future : f ≡ true → told 5 (Present (length (listOf t s))) ≡ listDecided room t s
+    list-future b = rw (le-ltb t (s .low) a, sym e ∙ b)
+
+    module _ (b : f ≡ false) (n : ℕ) (g : n ≡ length (listOf t s)) where
+      list-number : (m : ℕ) → listAnswer room t s ≡ m → told m (Present (length (listOf t s))) ≡ listDecided room t s
+      list-number m q = sym (ap (λ (x : ℕ). told x (Present (length (listOf t s)))) q)
+
+      pub list-room : room < n → told 12 (Present (length (listOf t s))) ≡ listDecided room t s
+      list-room h = list-number 12 (rw (le-ltb t (s .low) a, sym e ∙ b, ← g, lt-leb n room h))
+
+      pub list-rows : n ≤ room → accepted (Present n) ≡ listDecided room t s
+      list-rows h = ap (λ (x : ℕ). accepted (Present x)) g ∙ list-number 0 (rw (le-ltb t (s .low) a, sym e ∙ b, ← g, le-leb n room h))
+
+-- the ways out of a checkpoint before the room
+module _ (t : ℕ) (s : Store) where
+  pub checkpoint-old : t < s .low → told 4 Absent ≡ told (checkpointRefusal t s) Absent
+  checkpoint-old a = rw (lt-ltb t (s .low) a)
+
+  module _ (a : s .low ≤ t) (i : Bool) (e : i ≡ ltb (lastOf s) t) where
+    pub checkpoint-future : i ≡ true → told 5 Absent ≡ told (checkpointRefusal t s) Absent
+    checkpoint-future b = rw (le-ltb t (s .low) a, sym e ∙ b)
+
+    module _ (b : i ≡ false) (d : Bool) (g : d ≡ heldIn t s) where
+      pub checkpoint-held : d ≡ true → told 9 Absent ≡ told (checkpointRefusal t s) Absent
+      checkpoint-held f = rw (le-ltb t (s .low) a, sym e ∙ b, sym g ∙ f)
+
+      pub checkpoint-clear : d ≡ false → told 0 Absent ≡ told (checkpointRefusal t s) Absent
+      checkpoint-clear f = rw (le-ltb t (s .low) a, sym e ∙ b, sym g ∙ f)

@@ -110,7 +110,7 @@ fn room(bytes: usize) -> usize
     records
 }
 
-// The last test of every call: so many records fit.
+// The last test of update, abort and commit: so many records fit.
 fn with_room(bytes: usize, wanted: usize) -> Done
     ensures { λ r. ⌜ ofDone r ≡ told (withRoom 0 wanted (roomOf bytes)) Absent ⌝ }
 {

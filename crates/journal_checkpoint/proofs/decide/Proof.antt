@@ -1,7 +1,7 @@
 -- `journal_checkpoint::decide` meets its contract: a law for each way out. Assumes nothing.
 use denote.Ref.{now}
 use Rattle.journal_store.specs.Shape.{meaning}
-use Rattle.journal_store.specs.Laws.{checkpoint-old, checkpoint-future, checkpoint-held, checkpoint-clear}
+use Rattle.journal_store.specs.Tests.{checkpoint-old, checkpoint-future, checkpoint-held, checkpoint-clear}
 use borrow.Author.Needs.{needs}
 use Rattle.journal_checkpoint.proofs.decide.Statement.{statement}
 use Rattle.journal_checkpoint.proofs.decide.Tie as tie

@@ -19,7 +19,9 @@ use Rattle.listing.specs.Settled.{Ample}
 use Rattle.journal_store.specs.declared.Head.{Head}
 use Rattle.journal_store.specs.Shape.{meaning, Shaped}
 use Rattle.journal_store.specs.Contracts.{isListShaped, ListedBy}
-use Rattle.journal_store.specs.Laws.{list-shape, list-paired, list-room, list-rows, list-filled, list-refused}
+use Rattle.journal_store.specs.ShapeLaws.{list-shape, list-paired}
+use Rattle.journal_store.specs.Tests.{list-room, list-rows}
+use Rattle.journal_store.specs.Laws.{list-filled, list-refused}
 use borrow.Author.Needs.{needs}
 use Rattle.journal_list.proofs.fill.Statement.{statement}
 use Rattle.journal_list.proofs.fill.Tie as tie

@@ -13,7 +13,9 @@ use Rattle.answer.specs.Reply.{refused}
 use Rattle.journal_store.specs.declared.Head.{Head}
 use Rattle.journal_store.specs.Shape.{meaning}
 use Rattle.journal_store.specs.Contracts.{isListShaped, ListedBy}
-use Rattle.journal_store.specs.Laws.{list-shape, list-old, list-future, list-bad, list-refused}
+use Rattle.journal_store.specs.ShapeLaws.{list-shape}
+use Rattle.journal_store.specs.Tests.{list-old, list-future}
+use Rattle.journal_store.specs.Laws.{list-bad, list-refused}
 use borrow.Author.Needs.{needs}
 use Rattle.journal_list.proofs.list.Statement.{statement}
 use Rattle.journal_list.proofs.list.Tie as tie

@@ -7,7 +7,8 @@ use lib.ListN.{length}
 use Rattle.rules.specs.Recovery.{accepts}
 use Rattle.walk.specs.Judged.{walk-whole}
 use Rattle.journal_store.specs.Contracts.{surviving}
-use Rattle.journal_store.specs.Laws.{recoverable, recover-bad, recover-refused, recover-done}
+use Rattle.journal_store.specs.ShapeLaws.{recoverable}
+use Rattle.journal_store.specs.Laws.{recover-bad, recover-refused, recover-done}
 use borrow.Author.Needs.{needs}
 use native.Mathlib.Omega.{arith}
 use denote.Ref.{now}

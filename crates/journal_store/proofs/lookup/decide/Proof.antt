@@ -1,6 +1,6 @@
 -- `journal_store::lookup::decide` meets its contract: a law for each way out. Assumes nothing.
 use Rattle.journal_store.specs.Shape.{meaning}
-use Rattle.journal_store.specs.Laws.{lookup-key, lookup-old, lookup-future, lookup-value}
+use Rattle.journal_store.specs.Tests.{lookup-key, lookup-old, lookup-future, lookup-value}
 use borrow.Author.Needs.{needs}
 use denote.Ref.{now}
 use Rattle.journal_store.proofs.lookup.decide.Statement.{statement}
