@@ -16,5 +16,6 @@ abbrev μ-loop : tie.MeasureT-loop
 
 pub of-bytes-spec : {M : Type 1} → statement M
 of-bytes-spec =
-    tie.close (tie.spec Inv-loop μ-loop (λ c. starts) (λ c. search needs) (λ c κs. search needs) (λ c κs. search needs) (λ c. search needs) (λ c. search needs)
+    tie.close (tie.spec Inv-loop μ-loop (λ c. starts)
+    (λ c. search needs) (λ c κs. search needs) (λ c κs. search needs) (λ c. search needs) (λ c. search needs)
     (λ c. added (c .before .before .before .before .loop .inv) (c .before .before .before .loop-test .taken) (c .more .ensures ∙ rw (c .before .wide8 .ensures))) (λ c. ends (c .before .loop .inv) (c .loop-test .left)))

@@ -15,5 +15,6 @@ abbrev μ-loop : tie.MeasureT-loop
 
 pub of-times-spec : {M : Type 1} → statement M
 of-times-spec =
-    tie.close (tie.spec Inv-loop μ-loop (λ c. starts) (λ c. search needs) (λ c. search needs) (λ c κs. search needs) (λ c. search needs) (λ c. search needs)
+    tie.close (tie.spec Inv-loop μ-loop (λ c. starts)
+    (λ c. search needs) (λ c. search needs) (λ c κs. search needs) (λ c. search needs) (λ c. search needs)
     (λ c. added (c .before .before .before .loop .inv) (c .before .before .loop-test .taken) (c .more .ensures)) (λ c. ends (c .before .loop .inv) (c .loop-test .left)))
