@@ -55,10 +55,6 @@ refused-some x = known x .some
 pub after-refused {ℓ} : {A : Type ℓ} (x : Refusal) (n : ℕ) (new old : A) → n ≡ numberOf x → old ≡ after n new old
 after-refused x n new old e = rw (e, refused-some x)
 
--- an accepted call leaves something new
-pub after-accepted {ℓ} : {A : Type ℓ} (n : ℕ) (new old : A) → n ≡ 0 → new ≡ after n new old
-after-accepted n new old e = rw e
-
 -- an answer that can be told from its reply is the only one with that reply
 pub told-apart : {A : Type 0} (of : A → Reply) (from : Reply → A) → ((a : A) → from (of a) ≡ a) → (a b : A) → of a ≡ of b → a ≡ b
 told-apart of from back a b e = sym (back a) ∙ ap from e ∙ back b

@@ -25,10 +25,6 @@ pub record Fit (r : Record) : Type 0 where
 pub first-four : (b : List ℕ) (at : ℕ) → at < length b → fieldAt b at 4 ≡ recordAt b at .zeros * 256 + recordAt b at .kind
 first-four b at h = field-split b at 1 3 (omega arith)
 
--- a record has 24 bytes
-pub length-bytes : (r : Record) → length (bytesOf r) ≡ recordBytes
-length-bytes r = refl
-
 -- what stands behind the bytes of a record does not matter to it
 pub record-front : (a x : List ℕ) (at : ℕ) → at + recordBytes ≤ length a → recordAt (a ++ x) at ≡ recordAt a at
 record-front a x at h =

@@ -46,10 +46,6 @@ front-fits (suc n) (b ∷ bs) h =
     let p : 256 ^ suc n ≡ 256 ^ n * 256 = pow-suc 256 n in
     omega (arith, front-fits n bs (bytes-rest b bs h), h 0 (omega arith))
 
--- bytes spell a number that fits them
-pub le-fits : (bs : List ℕ) → Bytes bs → le bs < 256 ^ length bs
-le-fits bs h = rw take-length at (front-fits (length bs) bs h)
-
 -- the end of bytes, and a part of them, are bytes
 bytes-drop : (b : List ℕ) (at : ℕ) → Bytes b → Bytes (drop at b)
 bytes-drop b at h i l = rw (getD-drop at b i 0) (h (at + i) (omega (arith, length-drop at b)))

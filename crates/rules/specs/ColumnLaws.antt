@@ -31,7 +31,3 @@ front-rows rows keys values =
 pub keys-more : (rows more : List Row) → rowKeys (rows ++ more) ≡ rowKeys rows ++ rowKeys more
 keys-more [] more = refl
 keys-more (row ∷ rows) more = rw (keys-more rows more)
-
-pub values-more : (rows more : List Row) → rowValues (rows ++ more) ≡ rowValues rows ++ rowValues more
-values-more [] more = refl
-values-more (row ∷ rows) more = rw (values-more rows more)

@@ -46,9 +46,6 @@ module _ (r : Record) where
   pub runs-skip : isBegin r ≡ false → isEnd r ≡ false → (m : ℕ) (rs : List Record) → runs m (r ∷ rs) ≡ runs m rs
   runs-skip b e m rs = split (eqb (r .transaction) m) (λ q. rw (q, b, e)) (λ q. rw q)
 
-  pub wrote-skip : isUpdate r ≡ false → (k m : ℕ) (rs : List Record) → wrote k (of m (r ∷ rs)) ≡ wrote k (of m rs)
-  wrote-skip h k m rs = split (eqb (r .transaction) m) (λ q. rw (q, h)) (λ q. rw q)
-
   pub touched-skip : isUpdate r ≡ false → (whole : List Record) (s : ℕ) (test : List Record → Bool) → ReadsUpdates test → (rs : List Record)
       → touched (r ∷ whole) s test rs ≡ touched whole s test rs
   touched-skip h whole s test reads [] = refl

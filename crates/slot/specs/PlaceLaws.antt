@@ -1,7 +1,7 @@
 -- What is found, opened, noted and closed in the slots is found, opened, noted and closed in the places that they mean. Assumes nothing.
 use mathlib.Core.Bool.{true, _||_}
 use mathlib.Core.List.{List, [], _∷_}
-use mathlib.Core.Path.{_≡_, refl, ap, ap₂, _∙_}
+use mathlib.Core.Path.{_≡_, refl, ap₂, _∙_}
 use Prim.Native.Nat.{ℕ, zero, suc, _+_, _/_, _%_, _^_, _<_, _≤_}
 use native.Mathlib.Nat.{add-zero, zero-add}
 use native.Mathlib.Omega.{arith}
@@ -29,14 +29,6 @@ use Rattle.slot.specs.RowLaws.{noted-place}
 pub empty-places : placesOf emptySlots ≡ free ∷ free ∷ free ∷ free ∷ free ∷ free ∷ free ∷ free ∷ []
 unfolding placesOf
 empty-places = refl
-
-length-from : (h : Slots) (i c : ℕ) → length (placesFrom h i c) ≡ c
-length-from h i zero = refl
-length-from h i (suc c) = ap suc (length-from h (i + 1) c)
-
-pub length-places : (h : Slots) → length (placesOf h) ≡ mostRunning
-unfolding placesOf
-length-places h = length-from h 0 mostRunning
 
 -- the place of a transaction
 place-from : (h : Slots) (n i c : ℕ) → placeOf n (placesFrom h i c) ≡ placeIn h (firstFrom (hasNumber n) h i c)
