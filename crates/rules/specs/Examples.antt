@@ -2,11 +2,12 @@
 use mathlib.Core.Path.{_≡_, refl}
 use mathlib.Core.Bool.{true, false}
 use mathlib.Core.List.{List, [], _∷_}
+use Prim.Native.Nat.{ℕ}
 use Rattle.rules.specs.declared.Record.{Record}
 use Rattle.rules.specs.declared.Value.the-variants.{Absent, Present}
-use Rattle.rules.specs.declared.Effect.the-variants.{Add}
+use Rattle.rules.specs.declared.Effect.the-variants.{Assign, Add}
 use Rattle.rules.specs.Kinds.{begun, assigned, added, committed, aborted}
-use Rattle.rules.specs.Effects.{applied}
+use Rattle.rules.specs.Effects.{applied, joined}
 use Rattle.rules.specs.Transactions.{runs, snapshot, wrote, of, keysWritten, running}
 use Rattle.rules.specs.Times.{last, next}
 use Rattle.rules.specs.Values.{Row, valueAt, readIn}
@@ -96,12 +97,43 @@ seven-listed = refl
 three-reads : readIn [] seven 3 (snapshot 3 seven) 9 ≡ Present 99
 three-reads = refl
 
--- rule 3.6: two writers of key 5 from the same snapshot
-abbrev both : List Record
-both = committed 1 1 ∷ added 2 5 1 ∷ begun 2 0 ∷ added 1 5 1 ∷ begun 1 0 ∷ []
+-- rule 3.6: two transactions from the same snapshot, of which the first commits; what each did to key 5
+abbrev both : (ℕ → ℕ → ℕ → Record) → (ℕ → ℕ → ℕ → Record) → List Record
+both first second = committed 1 1 ∷ second 2 5 1 ∷ begun 2 0 ∷ first 1 5 1 ∷ begun 1 0 ∷ []
 
-second-conflicts : conflict 2 (snapshot 2 both) both ≡ true
-second-conflicts = refl
+adders-pass : conflict 2 0 (both added added) ≡ false
+adders-pass = refl
 
-first-clear : conflict 1 0 (added 2 5 1 ∷ begun 2 0 ∷ added 1 5 1 ∷ begun 1 0 ∷ []) ≡ false
+adder-conflicts : conflict 2 0 (both assigned added) ≡ true
+adder-conflicts = refl
+
+assigner-conflicts : conflict 2 0 (both added assigned) ≡ true
+assigner-conflicts = refl
+
+assigners-conflict : conflict 2 0 (both assigned assigned) ≡ true
+assigners-conflict = refl
+
+-- both totals stand in the list
+adders-listed : listAt [] (committed 2 2 ∷ both added added) 2 ≡ record { key = 5; value = 2 } ∷ []
+adders-listed = refl
+
+-- one assign is enough, wherever it stands among the adds
+once-assigned : conflict 2 0 (added 2 5 1 ∷ both added assigned) ≡ true
+once-assigned = refl
+
+-- an assign of a number counts also behind its commit
+assigned-behind : conflict 2 0 (assigned 1 5 7 ∷ both added added) ≡ true
+assigned-behind = refl
+
+first-clear : conflict 1 0 (assigned 2 5 1 ∷ begun 2 0 ∷ assigned 1 5 1 ∷ begun 1 0 ∷ []) ≡ false
 first-clear = refl
+
+-- effects as one: adds come to a total, an add to an assign is an assign
+totals : joined (Add 4294967295) (Add 3) ≡ Add 2
+totals = refl
+
+assign-stays : joined (Assign 7) (Add 3) ≡ Assign 10
+assign-stays = refl
+
+assign-overrides : joined (Add 3) (Assign 7) ≡ Assign 7
+assign-overrides = refl

@@ -15,7 +15,7 @@ use Rattle.rules.specs.Effects.{effects}
 use Rattle.rules.specs.Transactions.{any, of, stillOpen, runs, firstBegin, wrote, keysWritten, opens, runningIn}
 use Rattle.rules.specs.Times.{above}
 use Rattle.rules.specs.Conflicts.{metOn}
-use Rattle.rules.specs.Meeting.{updatesOf, wrote-reads}
+use Rattle.rules.specs.Meeting.{updatesOf, met-own-reads}
 use Rattle.rules.specs.Checkpoints.{raise, sift}
 use Rattle.rules.specs.Bools.{split, and-left, and-right, and-both, or-left, or-right, or-none, not-both, implies-false, and-false}
 
@@ -51,7 +51,7 @@ module _ (T : ℕ) where
 
   -- raised begins change nothing in whom a transaction met
   pub met-raised : (k : ℕ) (own other : List Record) → metOn k (raised T own) other ≡ metOn k own other
-  met-raised k own other = ap (λ (w : Bool). w && wrote k other) (wrote-reads k (raised T own) own (raised-updates own))
+  met-raised k own other = met-own-reads k other (raised T own) own (raised-updates own)
 
   pub raised-wrote : (k : ℕ) (own : List Record) → wrote k (raised T own) ≡ wrote k own
   raised-wrote k [] = refl

@@ -13,6 +13,7 @@ pub mod Recovery
 pub mod Calls
 -- Laws of it, and that no second answer satisfies a contract.
 pub mod ColumnLaws
+pub mod EffectLaws
 pub mod Bools
 pub mod Passed
 pub mod Meeting
@@ -20,6 +21,7 @@ pub mod Running
 pub mod Listing
 pub mod KeptLaws
 pub mod RoomLaws
+pub mod Before
 pub mod Unique
 -- Examples, computed.
 pub mod Examples

@@ -4,7 +4,7 @@ ghost use mathlib.Core.Bool.{_&&_};
 ghost use mathlib.Core.Path.{_≡_};
 ghost use lib.Dec.{leb};
 ghost use Rattle.rules.specs.Kinds.{isCommit, isUpdate};
-ghost use Rattle.rules.specs.Effects.{orZero, applied, effectOf};
+ghost use Rattle.rules.specs.Effects.{orZero, applied, joined, isAdd, markOf, amountOf, effectBy, effectOf};
 
 // What a register holds. 0 is an ordinary value and differs from absent.
 pub enum Value {
@@ -30,6 +30,48 @@ pub enum Effect {
     Add(u32),
 }
 
+impl Effect {
+    // The effect that a mark and an amount hold in cells.
+    pub fn by(mark: u8, amount: u32) -> Self
+        ensures { λ r. ⌜ r ≡ effectBy mark amount ⌝ }
+    {
+        if mark == 0 {
+            return Effect::Assign(amount);
+        }
+        Effect::Add(amount)
+    }
+
+    // Whether it adds.
+    pub fn adds(self) -> bool
+        ensures { λ r. ⌜ r ≡ isAdd self ⌝ }
+    {
+        match self {
+            Effect::Assign(_) => false,
+            Effect::Add(_) => true,
+        }
+    }
+
+    // Its mark in a cell.
+    pub fn mark(self) -> u8
+        ensures { λ r. ⌜ r ≡ markOf self ⌝ }
+    {
+        match self {
+            Effect::Assign(_) => 0,
+            Effect::Add(_) => 1,
+        }
+    }
+
+    // Its amount in a cell.
+    pub fn amount(self) -> u32
+        ensures { λ r. ⌜ r ≡ amountOf self ⌝ }
+    {
+        match self {
+            Effect::Assign(v) => v,
+            Effect::Add(d) => d,
+        }
+    }
+}
+
 // Rule 3.1: what an effect makes of the value before it.
 pub fn apply(e: Effect, old: Value) -> Value
     ensures { λ r. ⌜ r ≡ applied e old ⌝ }
@@ -37,6 +79,19 @@ pub fn apply(e: Effect, old: Value) -> Value
     match e {
         Effect::Assign(v) => Value::Present(v),
         Effect::Add(d) => Value::Present(std::num::wrapping_add_u32(old.or_zero(), d)),
+    }
+}
+
+// What two effects, the newer after the older, come to as one.
+pub fn join(older: Effect, newer: Effect) -> Effect
+    ensures { λ r. ⌜ r ≡ joined older newer ⌝ }
+{
+    match newer {
+        Effect::Assign(v) => Effect::Assign(v),
+        Effect::Add(d) => match older {
+            Effect::Assign(v) => Effect::Assign(std::num::wrapping_add_u32(v, d)),
+            Effect::Add(t) => Effect::Add(std::num::wrapping_add_u32(t, d)),
+        },
     }
 }
 
