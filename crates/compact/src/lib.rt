@@ -13,7 +13,7 @@ ghost use Rattle.record.specs.Bytes.{recordsIn};
 ghost use Rattle.compact.specs.Marks.{MarkSet, Marks};
 ghost use Rattle.compact.specs.Compact.{keptIn, sifted, zeroed, Moved, Compacted};
 use journal::Journal;
-use journal::conflicts;
+use journal::times;
 use journal::transactions;
 use rules::Record;
 
@@ -164,7 +164,7 @@ pub fn keep_running(journal: &mut [u8], used: usize, t: u64) -> usize
     let mut running = [0u32; Journal::RECORDS];
     let opened = transactions::running_numbers(journal, used, &mut running);
     let mut lates = [0u32; Journal::RECORDS];
-    let late = conflicts::late_numbers(journal, used, t, &mut lates);
+    let late = times::late_numbers(journal, used, t, &mut lates);
     let mut marks = [0u32; MARKS];
     let alone = mark(&lates, late, &mut marks);
     let count = keep(
@@ -189,7 +189,7 @@ pub fn keep_done(journal: &mut [u8], used: usize, low: u64, end: usize) -> usize
     ensures { λ r. ⌜ Compacted (survivors (recordsIn used (now (journal .entry)))) end (now (journal .entry)) r (now (journal .exit)) ⌝ }
 {
     let mut lates = [0u32; Journal::RECORDS];
-    let late = conflicts::late_numbers(journal, used, low, &mut lates);
+    let late = times::late_numbers(journal, used, low, &mut lates);
     let mut marks = [0u32; MARKS];
     let alone = mark(&lates, late, &mut marks);
     let count = keep(journal, used, low, &lates, 0, &lates, late, &marks, alone);

@@ -1,24 +1,12 @@
 -- Columns that a pass over the records fills: the running transactions, those that committed later than a time, and the distinct keys that one wrote.
 -- A row more is the next behind those filled, so that a column has the oldest first, and behind them what stood there. Assumes nothing.
 use mathlib.Core.Path.{_≡_}
-use mathlib.Core.Bool.{Bool, cond, not, _&&_}
+use mathlib.Core.Bool.{cond}
 use mathlib.Core.List.{List, [], _∷_, _++_, reverse}
 use Prim.Native.Nat.{ℕ, _+_, _≤_}
-use lib.Dec.{eqb}
 use lib.ListN.{length, drop}
 use Rattle.rules.specs.declared.Record.{Record}
-use Rattle.rules.specs.Kinds.{isUpdate}
-use Rattle.rules.specs.Transactions.{of}
-use Rattle.rules.specs.Lists.{among}
 use Rattle.rules.specs.Checkpoints.{late}
-
--- an update of transaction n, of a key that is not in a column yet
-abbrev pub newKey : ℕ → List ℕ → Record → Bool
-newKey n keys r = eqb (r .transaction) n && (isUpdate r && not (among (r .key) keys))
-
--- an update of one of some keys by one of some transactions
-abbrev pub metIn : List ℕ → List ℕ → Record → Bool
-metIn keys numbers r = isUpdate r && (among (r .key) keys && among (r .transaction) numbers)
 
 -- the transactions that committed later than s, once for each such commit, the newest first
 abbrev pub lates : ℕ → List Record → List ℕ

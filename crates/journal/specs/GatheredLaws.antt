@@ -10,12 +10,12 @@ use lib.ListN.{length, take, drop, getD, set, length-reverse}
 use lib.Seq.{drop-cons, set-at, append-snoc, take-append-seam}
 use Rattle.rules.specs.declared.Record.{Record}
 use Rattle.rules.specs.Bools.{split}
-use Rattle.rules.specs.Transactions.{any, of, wrote, runs, running, keysWritten}
-use Rattle.rules.specs.Running.{running-runs, wrote-among}
+use Rattle.rules.specs.Transactions.{any, of, runs, running}
+use Rattle.rules.specs.Running.{running-runs}
 use Rattle.rules.specs.Lists.{among}
 use Rattle.rules.specs.Checkpoints.{late}
 use Rattle.column.specs.AmongLaws.{among-end}
-use Rattle.journal.specs.Gathered.{newKey, lates, Gathered}
+use Rattle.journal.specs.Gathered.{lates, Gathered}
 
 -- nothing is passed
 pub gathered-none : (column : List ℕ) → Gathered [] 0 0 column column
@@ -49,7 +49,7 @@ among-reverse k [] = refl
 among-reverse k (x ∷ xs) = rw (reverse-cons x xs, among-end k x (reverse xs), among-reverse k xs)
 
 -- the rows filled hold those numbers
-gathered-among : (xs : List ℕ) (i count : ℕ) (entry column : List ℕ) → Gathered xs i count entry column → (k : ℕ)
+pub gathered-among : (xs : List ℕ) (i count : ℕ) (entry column : List ℕ) → Gathered xs i count entry column → (k : ℕ)
     → among k (take count column) ≡ among k xs
 gathered-among xs i count entry column h k =
     let p : length (reverse xs) ≡ count = length-reverse xs ∙ sym (h .many) in
@@ -63,18 +63,10 @@ among-late m s (r ∷ rs) =
     (λ l. rw (l, among-late m s rs) (split (eqb (r .transaction) m) (λ e. rw (e, l)) (λ e. rw e)))
     (λ l. rw (l, among-late m s rs) (split (eqb (r .transaction) m) (λ e. rw (e, l)) (λ e. rw e)))
 
--- so a number stands in a column filled exactly if its transaction runs, or committed later, and a key if it was written
+-- so a number stands in a column filled exactly if its transaction runs, or committed later
 module _ (rs : List Record) (i count : ℕ) (entry column : List ℕ) where
   pub running-held : Gathered (running rs) i count entry column → (m : ℕ) → among m (take count column) ≡ runs m rs
   running-held h m = gathered-among (running rs) i count entry column h m ∙ running-runs m rs
 
   pub late-held : (s : ℕ) → Gathered (lates s rs) i count entry column → (m : ℕ) → among m (take count column) ≡ any (late s) (of m rs)
   late-held s h m = gathered-among (lates s rs) i count entry column h m ∙ among-late m s rs
-
-  pub keys-held : Gathered (keysWritten rs) i count entry column → (k : ℕ) → among k (take count column) ≡ wrote k rs
-  keys-held h k = gathered-among (keysWritten rs) i count entry column h k ∙ wrote-among k rs
-
--- a record's turn for the keys of a transaction
-pub keys-more : (n : ℕ) (keys : List ℕ) (r : Record) (rs : List Record) → among (r .key) keys ≡ wrote (r .key) (of n rs)
-    → keysWritten (of n (r ∷ rs)) ≡ cond (newKey n keys r) (r .key ∷ keysWritten (of n rs)) (keysWritten (of n rs))
-keys-more n keys r rs h = rw h (split (eqb (r .transaction) n) (λ e. rw e) (λ e. rw e))

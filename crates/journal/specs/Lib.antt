@@ -6,7 +6,5 @@ pub mod Gathered
 pub mod WalksLaws
 pub mod GatheredLaws
 pub mod Ends
-pub mod Some
-pub mod Meets
 pub mod Past
 pub mod Unique

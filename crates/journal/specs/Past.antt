@@ -1,20 +1,19 @@
--- No commit is later than last, and nobody conflicts with a snapshot that no commit is later than. Assumes nothing.
-use mathlib.Core.Path.{_≡_, refl, sym, _∙_}
-use mathlib.Core.Bool.{Bool, true, false, false≢true}
+-- No commit is later than last. Assumes nothing.
+use mathlib.Core.Path.{_≡_, sym, _∙_}
+use mathlib.Core.Bool.{true, false, false≢true}
 use mathlib.Core.List.{List, [], _∷_}
 use Prim.Native.Nat.{ℕ, zero, suc, _*_, _<_, _≤_}
 use native.Mathlib.Nat.{le-max-left, le-max-right, max-le}
 use native.Mathlib.Omega.{arith}
-use borrow.Author.Tests.{eqb-true, eqb-false, le-ltb, ltb-false}
+use borrow.Author.Tests.{eqb-true, eqb-false, ltb-false}
 use lib.Dec.{eqb}
 use Rattle.rules.specs.declared.Record.{Record}
 use Rattle.rules.specs.Bools.{split, or-none-left, or-none-right}
-use Rattle.rules.specs.Kinds.{isUpdate, isCommit, recordBytes}
-use Rattle.rules.specs.Transactions.{any, of}
+use Rattle.rules.specs.Kinds.{isCommit, recordBytes}
+use Rattle.rules.specs.Transactions.{any}
 use Rattle.rules.specs.Times.{last}
 use Rattle.rules.specs.Checkpoints.{late}
 use Rattle.record.specs.Bytes.{recordAt, recordsIn}
-use Rattle.rules.specs.Conflicts.{metOn, touched, clashes, conflict}
 
 -- every commit of some records is at or before l
 pub data Past (l : ℕ) : List Record → Type 0 where
@@ -22,7 +21,7 @@ pub data Past (l : ℕ) : List Record → Type 0 where
   more : (r : Record) (rs : List Record) → (isCommit r ≡ true → r .time ≤ l) → Past l rs → Past l (r ∷ rs)
 
 -- and so it is before any later time
-later : {l m : ℕ} {rs : List Record} → l ≤ m → Past l rs → Past m rs
+pub later : {l m : ℕ} {rs : List Record} → l ≤ m → Past l rs → Past m rs
 later h none = none
 later h (more r rs c p) = more r rs (λ e. let k = c e in omega arith) (later h p)
 
@@ -63,21 +62,3 @@ last-past low t (r ∷ rs) h e =
     let z : r .time ≤ t = ltb-false t (r .time) (rw c at a) in
     rw c (max-le k z))
     (λ c. rw c k)
-
-module _ (whole : List Record) (s : ℕ) (test : List Record → Bool) where
-  -- no commit is after s
-  untouched : {rs : List Record} → Past s rs → touched whole s test rs ≡ false
-  untouched none = refl
-  untouched (more r rs c p) =
-      split (isCommit r)
-      (λ e. rw (e, le-ltb s (r .time) (c e)) (untouched p))
-      (λ e. rw e (untouched p))
-
--- so nothing clashes
-no-clash : (s : ℕ) (rs own xs : List Record) → Past s rs → any (clashes rs s own) xs ≡ false
-no-clash s rs own [] p = refl
-no-clash s rs own (x ∷ xs) p =
-    rw (untouched rs s (metOn (x .key) own) p) (split (isUpdate x) (λ e. rw e (no-clash s rs own xs p)) (λ e. rw e (no-clash s rs own xs p)))
-
-pub no-conflict-since : (l s n : ℕ) (rs : List Record) → l ≤ s → Past l rs → conflict n s rs ≡ false
-no-conflict-since l s n rs h p = no-clash s rs (of n rs) (of n rs) (later h p)

@@ -6,9 +6,8 @@ use Prim.Native.Nat.{ℕ}
 use lib.Dec.{ltb}
 use lib.ListN.{drop}
 use Rattle.rules.specs.declared.Record.{Record}
-use Rattle.rules.specs.Transactions.{of, runs, running, mayWrite}
+use Rattle.rules.specs.Transactions.{of, runs, running}
 use Rattle.rules.specs.Times.{last, next}
-use Rattle.rules.specs.Conflicts.{conflict}
 use Rattle.rules.specs.Checkpoints.{held}
 use Rattle.journal.specs.declared.Base.{Base}
 use Rattle.journal.specs.declared.Journal.{Journal}
@@ -57,12 +56,6 @@ module _ (rs : List Record) where
   pub held-unique : (t : ℕ) (a b : Bool) → a ≡ held t rs → b ≡ held t rs → a ≡ b
   held-unique t a b p q = p ∙ sym q
 
-  pub may-write-unique : (n k : ℕ) (a b : Bool) → a ≡ mayWrite n k rs → b ≡ mayWrite n k rs → a ≡ b
-  may-write-unique n k a b p q = p ∙ sym q
-
   pub late-numbers-unique : (s used a b : ℕ) (entry exit other : List ℕ) → Gathered (lates s rs) used a entry exit
       → Gathered (lates s rs) used b entry other → (a ≡ b) × (exit ≡ other)
   late-numbers-unique s used a b entry exit other p q = once (lates s rs) used a b entry exit other p q
-
-  pub conflict-unique : (n snapshot : ℕ) (a b : Bool) → a ≡ conflict n snapshot rs → b ≡ conflict n snapshot rs → a ≡ b
-  conflict-unique n snapshot a b p q = p ∙ sym q

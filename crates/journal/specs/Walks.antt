@@ -7,7 +7,7 @@ use lib.Dec.{eqb}
 use lib.ListN.{length}
 use Rattle.rules.specs.declared.Record.{Record}
 use Rattle.rules.specs.Kinds.{isBegin, isEnd}
-use Rattle.rules.specs.Transactions.{any, of, firstBegin, running}
+use Rattle.rules.specs.Transactions.{any, firstBegin, running}
 use Rattle.rules.specs.Times.{aboveStep}
 use Rattle.journal.specs.declared.transactions.Trace.{Trace}
 

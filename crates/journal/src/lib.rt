@@ -1,9 +1,8 @@
-// What the records of a journal say of transactions, times and conflicts: rules 3.2, 3.3 and 3.6, read only. Damaged records are records like any
+// What the records of a journal say of transactions and times: rules 3.2 and 3.3, read only. Damaged records are records like any
 // other; unknown kinds are passed over. Every pass asks that the used records are there.
 ghost use mathlib.Core.Path.{_≡_};
 ghost use Rattle.journal.specs.Kinds.{emptyBase, emptyJournal};
 
-pub mod conflicts;
 pub mod times;
 pub mod transactions;
 

@@ -1,4 +1,4 @@
-// Rule 3.3: last, and the next number.
+// Rule 3.3: last, and the next number; and who committed later than a time.
 ghost use mathlib.Core.Path.{_≡_};
 ghost use Prim.Native.Nat.{_+_, _*_, _≤_, max};
 ghost use lib.ListN.{length};
@@ -10,6 +10,7 @@ ghost use Rattle.rules.specs.Transactions.{any};
 ghost use Rattle.rules.specs.Checkpoints.{late};
 ghost use Rattle.record.specs.Bytes.{recordsIn};
 ghost use Rattle.journal.specs.Walks.{Above};
+ghost use Rattle.journal.specs.Gathered.{lates, Gathered};
 use crate::Journal;
 use rules::Record;
 
@@ -157,4 +158,22 @@ pub fn next(journal: &[u8], used: usize, floor: u32) -> u32
         return best as u32;
     }
     Journal::NO_NUMBER
+}
+
+// The transactions that committed later than a time, into a column in the order of these commits; how many commits there are.
+pub fn late_numbers(journal: &[u8], used: usize, s: u64, numbers: &mut [u32]) -> usize
+    requires { ⌜ (used * recordBytes ≤ length (now journal)) × (used ≤ length (now numbers)) ⌝ }
+    ensures { λ r. ⌜ Gathered (lates s (recordsIn used (now (journal .entry)))) used r (now (numbers .entry)) (now (numbers .exit)) ⌝ }
+{
+    let mut count = 0;
+    let mut i = 0;
+    while i < used {
+        let r = record::read(journal, i);
+        if is_late(r, s) {
+            numbers[count] = r.transaction;
+            count += 1;
+        }
+        i += 1;
+    }
+    count
 }

@@ -40,7 +40,7 @@ fn decide(h: Head, keys: &[u32], values: &[u32], journal: &[u8], n: u32, t: u64)
     if t <= last {
         return Done::Refused(Refusal::NotLater);
     }
-    if journal::conflicts::conflict(journal, used, n, trace.snapshot, last) {
+    if conflict::conflict(journal, used, n, trace.snapshot, last) {
         return Done::Refused(Refusal::Conflict);
     }
     crate::with_room(journal.len(), used + 1)

@@ -48,7 +48,7 @@ fn decide(h: Head, keys: &[u32], values: &[u32], journal: &[u8], n: u32, k: u32,
     if k == 0 {
         return Done::Refused(Refusal::BadKey);
     }
-    if !journal::conflicts::may_write(journal, used, n, k) {
+    if !conflict::may_write(journal, used, n, k) {
         return Done::Refused(Refusal::KeysFull);
     }
     let running = journal::transactions::count_running(journal, used);

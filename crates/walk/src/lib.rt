@@ -12,7 +12,6 @@ ghost use Rattle.journal.specs.Past.{Past};
 ghost use Rattle.walk.specs.Walk.{started, pushed, numberedBy, timelyBy, isBlank, Without, Open, Tracks, Stepped, SnapshotOf};
 use column::Found;
 use journal::Journal;
-use journal::conflicts;
 use rules::Record;
 use rules::Walked;
 
@@ -188,7 +187,7 @@ fn limited(journal: &[u8], i: usize, r: Record, s: State) -> bool
         return s.count < Journal::RUNNING;
     }
     if r.is_update() {
-        return conflicts::may_write(journal, i, r.transaction, r.key);
+        return conflict::may_write(journal, i, r.transaction, r.key);
     }
     true
 }
@@ -202,7 +201,7 @@ fn clear(journal: &[u8], i: usize, r: Record, s: State) -> bool
         return true;
     }
     let snapshot = s.snapshot(r.transaction);
-    !conflicts::conflict(journal, i, r.transaction, snapshot, s.last)
+    !conflict::conflict(journal, i, r.transaction, snapshot, s.last)
 }
 
 // Whether an accepted call would write a record behind the first i.

@@ -1,4 +1,4 @@
--- `journal::conflicts::late_numbers` meets its contract. The loop's invariant: the column holds the transactions of the late commits passed.
+-- `journal::times::late_numbers` meets its contract. The loop's invariant: the column holds the transactions of the late commits passed.
 -- Assumes nothing.
 use mathlib.Core.Path.{_≡_, refl}
 use mathlib.Core.Logic.{⊎-elim}
@@ -12,8 +12,8 @@ use Rattle.journal.specs.GatheredLaws.{gathered-none, gathered-more, gat
 use borrow.Author.Needs.{needs}
 use native.Mathlib.Omega.{arith}
 use denote.Ref.{now}
-use Rattle.journal.proofs.conflicts.late_numbers.Statement.{statement}
-use Rattle.journal.proofs.conflicts.late_numbers.Tie as tie
+use Rattle.journal.proofs.times.late_numbers.Statement.{statement}
+use Rattle.journal.proofs.times.late_numbers.Tie as tie
 
 abbrev Inv-loop : tie.InvT-loop
 Inv-loop journal used s numbers₀ count₀ i₀ numbers count i = (i ≤ used) × (length numbers ≡ length numbers₀) × Gathered (lates s (recordsIn i journal)) i count numbers₀ numbers

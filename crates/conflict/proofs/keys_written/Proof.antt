@@ -1,4 +1,4 @@
--- `journal::conflicts::keys_written` meets its contract. The loop's invariant: the column holds the distinct keys of the records passed.
+-- `conflict::keys_written` meets its contract. The loop's invariant: the column holds the distinct keys of the records passed.
 -- Assumes nothing.
 use mathlib.Core.Path.{_≡_, refl}
 use mathlib.Core.Logic.{⊎-elim}
@@ -7,22 +7,24 @@ use lib.ListN.{length, take, length-set}
 use Rattle.rules.specs.Transactions.{of, keysWritten}
 use Rattle.record.specs.Bytes.{recordsIn}
 use Rattle.record.specs.Walks.{onward}
-use Rattle.journal.specs.Gathered.{newKey, Gathered}
-use Rattle.journal.specs.GatheredLaws.{gathered-none, gathered-more, gathered-same, keys-held, keys-more}
+use Rattle.journal.specs.Gathered.{Gathered}
+use Rattle.conflict.specs.Keys.{counting, newKey}
+use Rattle.journal.specs.GatheredLaws.{gathered-more, gathered-same}
+use Rattle.conflict.specs.KeysLaws.{keys-held, keys-none, keys-more}
 use borrow.Author.Needs.{needs}
 use native.Mathlib.Omega.{arith}
 use denote.Ref.{now}
-use Rattle.journal.proofs.conflicts.keys_written.Statement.{statement}
-use Rattle.journal.proofs.conflicts.keys_written.Tie as tie
+use Rattle.conflict.proofs.keys_written.Statement.{statement}
+use Rattle.conflict.proofs.keys_written.Tie as tie
 
 abbrev Inv-loop : tie.InvT-loop
-Inv-loop journal used n keys₀ count₀ i₀ keys count i = (i ≤ used) × (length keys ≡ length keys₀) × Gathered (keysWritten (of n (recordsIn i journal))) i count keys₀ keys
+Inv-loop journal used n adds keys₀ count₀ i₀ keys count i = (i ≤ used) × (length keys ≡ length keys₀) × Gathered (keysWritten (counting adds (of n (recordsIn i journal)))) i count keys₀ keys
 
 abbrev μ-loop : tie.MeasureT-loop
-μ-loop journal used n keys₀ count₀ i₀ keys count i = used - i
+μ-loop journal used n adds keys₀ count₀ i₀ keys count i = used - i
 
 loop-holds : tie.Need-loop-holds Inv-loop μ-loop
-loop-holds c = (omega arith, refl, gathered-none _)
+loop-holds c = (omega arith, refl, keys-none (c .before .before .args .adds) _)
 
 loop-again : tie.Need-loop-again Inv-loop μ-loop
 loop-again c =
@@ -32,13 +34,14 @@ loop-again c =
     let r = t .before .before .read in
     let j = now (a .journal) in
     let rs = recordsIn (l .i) j in
-    let xs = keysWritten (of (a .n) rs) in
-    let test = newKey (a .n) (take (l .count) (l .keys)) (r .result) in
-    let told = keys-held (of (a .n) rs) (l .i) (l .count) (now (a .keys)) (l .keys) (l .inv .2) (r .result .key) in (
+    let own = counting (a .adds) (of (a .n) rs) in
+    let xs = keysWritten own in
+    let test = newKey (a .n) (a .adds) (take (l .count) (l .keys)) (r .result) in
+    let told = keys-held own (l .i) (l .count) (now (a .keys)) (l .keys) (l .inv .2) (r .result .key) in (
       omega arith,
       ⊎-elim (λ w. rw (w .1) (simp length-set (l .inv .1))) (λ w. rw (w .1) (l .inv .1)) (c .if1 .came),
-      onward (λ ys. Gathered (keysWritten (of (a .n) ys)) (l .i + 1) (c .if1 .count) (now (a .keys)) (c .if1 .keys)) j (l .i) _ (r .ensures)
-          (rw (keys-more (a .n) (take (l .count) (l .keys)) (r .result) rs told)
+      onward (λ ys. Gathered (keysWritten (counting (a .adds) (of (a .n) ys))) (l .i + 1) (c .if1 .count) (now (a .keys)) (c .if1 .keys)) j (l .i) _ (r .ensures)
+          (rw (keys-more (a .n) (a .adds) (take (l .count) (l .keys)) (r .result) rs told)
           (⊎-elim
           (λ w.
           gathered-more xs (l .i) (l .count) (now (a .keys)) (l .keys) (l .inv .2) test _ (t .is-new-key .ensures) (r .result .key) _ _ (omega arith)

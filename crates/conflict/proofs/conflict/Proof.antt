@@ -1,11 +1,11 @@
--- `journal::conflicts::conflict` meets its contract: with a snapshot at last nobody conflicts. Assumes nothing.
+-- `conflict::conflict` meets its contract: with a snapshot at last nobody conflicts. Assumes nothing.
 use mathlib.Core.Path.{sym}
 use Rattle.record.specs.Bytes.{recordsIn}
-use Rattle.journal.specs.Past.{no-conflict-since}
+use Rattle.conflict.specs.Clear.{no-conflict-since}
 use borrow.Author.Needs.{needs}
 use denote.Ref.{now}
-use Rattle.journal.proofs.conflicts.conflict.Statement.{statement}
-use Rattle.journal.proofs.conflicts.conflict.Tie as tie
+use Rattle.conflict.proofs.conflict.Statement.{statement}
+use Rattle.conflict.proofs.conflict.Tie as tie
 
 returns : tie.Need-returns
 returns c =

@@ -1,4 +1,4 @@
--- `journal::conflicts::may_write` meets its contract: fewer than 32 keys, or this one among them. Assumes nothing.
+-- `conflict::may_write` meets its contract: fewer than 32 keys, or this one among them. Assumes nothing.
 use mathlib.Core.Path.{_≡_, sym, _∙_}
 use mathlib.Core.Bool.{Bool, true}
 use mathlib.Core.List.{List}
@@ -11,12 +11,12 @@ use Rattle.rules.specs.Bools.{or-right, or-false}
 use Rattle.rules.specs.Lists.{among}
 use Rattle.rules.specs.Transactions.{of, wrote, keysWritten, mayWrite}
 use Rattle.record.specs.Bytes.{recordsIn}
 use Rattle.journal.specs.Gathered.{Gathered}
-use Rattle.journal.specs.GatheredLaws.{keys-held}
+use Rattle.conflict.specs.KeysLaws.{keys-held}
 use borrow.Author.Needs.{needs}
 use denote.Ref.{now}
-use Rattle.journal.proofs.conflicts.may_write.Statement.{statement}
-use Rattle.journal.proofs.conflicts.may_write.Tie as tie
+use Rattle.conflict.proofs.may_write.Statement.{statement}
+use Rattle.conflict.proofs.may_write.Tie as tie
 
 module _ (n k used count : ℕ) (rs : List Record) (entry keys : List ℕ) (h : Gathered (keysWritten (of n rs)) used count entry keys) where
   few : count < 32 → true ≡ mayWrite n k rs
