@@ -8,10 +8,11 @@ use Rattle.slot.specs.declared.Slot.{Slot}
 use Rattle.slot.specs.declared.Slots.{Slots}
 use Rattle.slot.specs.Slots.{slotAt, isOccupied}
 
--- both arrays of a slot have all their rows, and no more are in use
+-- all arrays of a slot have all their rows, and no more are in use
 pub record Rowed (s : Slot) : Type 0 where
   pub keys : length (s .keys) ≡ mostKeys
   pub values : length (s .values) ≡ mostKeys
+  pub marks : length (s .marks) ≡ mostKeys
   pub count : s .count ≤ mostKeys
 
 -- the number of the occupied slots is a byte, there are eight slots, and the rows of the occupied ones are in order

@@ -7,6 +7,7 @@ use borrow.Author.Tests.{eqb-true, eqb-false, ltb-true}
 use lib.Dec.{eqb, ltb}
 use lib.ListN.{set, length-set}
 use lib.Seq.{getD-set-same, getD-set-other}
+use Rattle.rules.specs.declared.Effect.{Effect}
 use Rattle.rules.specs.Limits.{mostRunning, mostKeys}
 use Rattle.rules.specs.Bools.{split}
 use Rattle.slot.specs.declared.Slot.{Slot}
@@ -19,7 +20,7 @@ use Rattle.slot.specs.Laws.{first-slot}
 use Rattle.slot.specs.RowLaws.{cases, rowed-noted}
 
 rowed-opened : (n s : ℕ) → Rowed (openedSlot n s)
-rowed-opened n s = record { keys = refl; values = refl; count = omega arith }
+rowed-opened n s = record { keys = refl; values = refl; marks = refl; count = omega arith }
 
 pub formed-empty : Formed emptySlots
 formed-empty = record { byte = omega arith; eight = refl; rowed = λ i e. absurd (false≢true (sym (past 0 i 0 (omega arith) (omega arith)) ∙ e)) }
@@ -54,9 +55,9 @@ formed-opened h n s w =
 pub formed-closed : (h : Slots) (i : ℕ) → Formed h → i < mostRunning → Formed (closedIn h i)
 formed-closed h i w l = formed-replaced h i 0 emptySlot w l (omega arith) (rowed-opened 0 0)
 
-pub formed-noted : (h : Slots) (i k v : ℕ) → Formed h → i < mostRunning → Formed (notedIn h i k v)
-formed-noted h i k v w l =
-    formed-set h (notedIn h i k v) i (noted (slotAt h i) k v) w l (w .byte) refl (λ j d. refl) (λ t. rowed-noted (slotAt h i) (w .rowed i t) k v)
+pub formed-noted : (h : Slots) (i k : ℕ) (x : Effect) → Formed h → i < mostRunning → Formed (notedIn h i k x)
+formed-noted h i k x w l =
+    formed-set h (notedIn h i k x) i (noted (slotAt h i) k x) w l (w .byte) refl (λ j d. refl) (λ t. rowed-noted (slotAt h i) (w .rowed i t) k x)
 
 -- formed slots pass the shape test
 pub formed-shaped : (h : Slots) → Formed h → slotsShaped h ≡ true

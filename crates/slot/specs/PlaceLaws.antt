@@ -11,6 +11,7 @@ use lib.Arith.{lt-one}
 use lib.Dec.{ltb}
 use lib.ListN.{length}
 use lib.Seq.{getD-set-same, getD-set-other}
+use Rattle.rules.specs.declared.Effect.{Effect}
 use Rattle.rules.specs.Limits.{mostRunning, mostKeys}
 use Rattle.rules.specs.Bools.{split}
 use Rattle.column.specs.declared.Found.the-variants.{At}
@@ -19,7 +20,7 @@ use Rattle.slot.specs.declared.Slots.{Slots}
 use Rattle.slot.specs.Bits.{bit, zeroFrom}
 use Rattle.slot.specs.BitLaws.{half, bit-same, bit-other, zero-from}
 use Rattle.slot.specs.Slot.{openedSlot, emptySlot, noted}
-use Rattle.slot.specs.Slots.{emptySlots, noSlot, slotAt, isOccupied, lowestFree, firstFrom, firstSlot, met, hasNumber, isBelow, slotOf, slotsHold, replaced, openedIn, notedIn, closedIn}
+use Rattle.slot.specs.Slots.{emptySlots, noSlot, slotAt, isOccupied, lowestFree, firstFrom, firstSlot, isFound, hasNumber, isBelow, slotOf, slotsHold, replaced, openedIn, notedIn, closedIn}
 use Rattle.slot.specs.Formed.{Formed}
 use Rattle.slot.specs.Laws.{first-from, first-slot}
 use Rattle.slot.specs.Places.{Place, free, taken, hasKey, note, placeOf, openIn, amend, occupied, holds, slotRows, placeIn, placeAt, placesFrom, placesOf}
@@ -43,7 +44,7 @@ unfolding placesOf firstSlot
 place-slot h n = place-from h n 0 mostRunning
 
 -- a time above a running snapshot
-holds-from : (h : Slots) (t i c : ℕ) → holds t (placesFrom h i c) ≡ met (firstFrom (isBelow t) h i c)
+holds-from : (h : Slots) (t i c : ℕ) → holds t (placesFrom h i c) ≡ isFound (firstFrom (isBelow t) h i c)
 holds-from h t i zero = refl
 holds-from h t i (suc c) =
     split (isOccupied h i)
@@ -153,13 +154,13 @@ module _ (h : Slots) (n : ℕ) {i : ℕ} (e : slotOf h n ≡ At i) where
       (others h i 0 emptySlot (omega arith))
       n 0 mostRunning e
 
-  -- a write noted in its slot is noted in its rows, where there is room
-  pub noted-places : Formed h → (k v : ℕ) → (hasKey k (slotRows (slotAt h i)) || ltb (slotAt h i .count) mostKeys) ≡ true
-      → placesOf (notedIn h i k v) ≡ amend n (taken (slotAt h i .number) (slotAt h i .snapshot) (note k v (slotRows (slotAt h i)))) (placesOf h)
+  -- an update noted in its slot is noted in its rows, where there is room
+  pub noted-places : Formed h → (k : ℕ) (x : Effect) → (hasKey k (slotRows (slotAt h i)) || ltb (slotAt h i .count) mostKeys) ≡ true
+      → placesOf (notedIn h i k x) ≡ amend n (taken (slotAt h i .number) (slotAt h i .snapshot) (note k x (slotRows (slotAt h i)))) (placesOf h)
   unfolding placesOf firstSlot
-  noted-places w k v f =
+  noted-places w k x f =
       let o = first-slot (hasNumber n) h e in
-      amend-from h (notedIn h i k v) i (taken (slotAt h i .number) (slotAt h i .snapshot) (note k v (slotRows (slotAt h i))))
-      (rw (o .occupied, getD-set-same (h .slots) i (noted (slotAt h i) k v) noSlot (omega (arith, o .below, w .eight))) (noted-place (slotAt h i) (w .rowed i (o .occupied)) k v f))
-      (λ j d. rw (getD-set-other (h .slots) i j (noted (slotAt h i) k v) noSlot d))
+      amend-from h (notedIn h i k x) i (taken (slotAt h i .number) (slotAt h i .snapshot) (note k x (slotRows (slotAt h i))))
+      (rw (o .occupied, getD-set-same (h .slots) i (noted (slotAt h i) k x) noSlot (omega (arith, o .below, w .eight))) (noted-place (slotAt h i) (w .rowed i (o .occupied)) k x f))
+      (λ j d. rw (getD-set-other (h .slots) i j (noted (slotAt h i) k x) noSlot d))
       n 0 mostRunning e

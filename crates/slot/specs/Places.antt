@@ -4,20 +4,21 @@ use mathlib.Core.List.{List, [], _∷_}
 use Prim.Native.Nat.{ℕ, zero, suc, _+_}
 use lib.Dec.{eqb, ltb}
 use lib.ListN.{getD}
-use Rattle.rules.specs.Effects.{orElse}
-use Rattle.rules.specs.Limits.{mostRunning}
+use Rattle.rules.specs.declared.Effect.{Effect}
 use Rattle.rules.specs.declared.Value.{Value}
-use Rattle.rules.specs.declared.Value.the-variants.{Absent, Present}
+use Rattle.rules.specs.Effects.{applied, joined, effectBy}
+use Rattle.rules.specs.Limits.{mostRunning}
 use Rattle.column.specs.declared.Found.{Found}
 use Rattle.column.specs.declared.Found.the-variants.{At, Nothing}
 use Rattle.slot.specs.declared.Slot.{Slot}
 use Rattle.slot.specs.declared.Slots.{Slots}
+use Rattle.slot.specs.Slot.{effectAt}
 use Rattle.slot.specs.Slots.{slotAt, isOccupied}
 
--- a row of a slot: a key that its transaction wrote, and the running value
+-- a row of a slot: a key that its transaction wrote, and what all its updates of it come to
 pub record Note : Type 0 where
   pub key : ℕ
-  pub value : ℕ
+  pub effect : Effect
 
 -- free, or taken by a transaction: its number, its snapshot, a row for each key that it wrote
 pub data Place : Type 0 where
@@ -34,20 +35,21 @@ abbrev pub hasKey : ℕ → List Note → Bool
 hasKey k [] = false
 hasKey k (r ∷ rows) = eqb (r .key) k || hasKey k rows
 
--- the value in a key's row: of one key twice the oldest row counts
-abbrev pub runningValue : ℕ → List Note → Value
-runningValue k [] = Absent
-runningValue k (r ∷ rows) = orElse (runningValue k rows) (cond (eqb (r .key) k) (Present (r .value)) Absent)
+-- what the row of a key makes of its value: of one key twice the oldest row counts; without a row it stays
+abbrev pub makes : ℕ → List Note → Value → Value
+makes k [] old = old
+makes k (r ∷ rows) old = cond (hasKey k rows) (makes k rows old) (cond (eqb (r .key) k) (applied (r .effect) old) old)
 
--- the value in a key's row replaced
-abbrev pub reset : ℕ → ℕ → List Note → List Note
-reset k v [] = []
-reset k v (r ∷ rows) =
-    cond (hasKey k rows) (r ∷ reset k v rows) (cond (eqb (r .key) k) (record { key = k; value = v } ∷ rows) (r ∷ rows))
+-- the effect in a key's row joined by one more
+abbrev pub joinedIn : ℕ → Effect → List Note → List Note
+joinedIn k e [] = []
+joinedIn k e (r ∷ rows) =
+    cond (hasKey k rows) (r ∷ joinedIn k e rows)
+    (cond (eqb (r .key) k) (record { key = k; effect = joined (r .effect) e } ∷ rows) (r ∷ rows))
 
--- a write noted: the key's row gets the value, or there is a new row
-abbrev pub note : ℕ → ℕ → List Note → List Note
-note k v rows = cond (hasKey k rows) (reset k v rows) (record { key = k; value = v } ∷ rows)
+-- an update noted: the key's row takes it up, or there is a new row
+abbrev pub note : ℕ → Effect → List Note → List Note
+note k e rows = cond (hasKey k rows) (joinedIn k e rows) (record { key = k; effect = e } ∷ rows)
 
 -- the place of a transaction: of several with one number the lowest
 abbrev pub placeOf : ℕ → List Place → Place
@@ -79,19 +81,20 @@ holds t [] = false
 holds t (free ∷ ps) = holds t ps
 holds t (taken m s rows ∷ ps) = ltb s t || holds t ps
 
--- the first n rows of two columns
-abbrev pub notesOf : List ℕ → List ℕ → ℕ → List Note
-notesOf keys values zero = []
-notesOf keys values (suc n) = record { key = getD keys n 0; value = getD values n 0 } ∷ notesOf keys values n
+-- the first n rows of three columns
+abbrev pub notesOf : List ℕ → List ℕ → List ℕ → ℕ → List Note
+notesOf keys values marks zero = []
+notesOf keys values marks (suc n) =
+    record { key = getD keys n 0; effect = effectBy (getD marks n 0) (getD values n 0) } ∷ notesOf keys values marks n
 
 -- the rows of a slot
 abbrev pub slotRows : Slot → List Note
-slotRows s = notesOf (s .keys) (s .values) (s .count)
+slotRows s = notesOf (s .keys) (s .values) (s .marks) (s .count)
 
--- the running value in the row that was found
-abbrev pub valueIn : Slot → Found → Value
-valueIn s (At i) = Present (getD (s .values) i 0)
-valueIn s Nothing = Absent
+-- what the row that was found makes of a value
+abbrev pub madeIn : Slot → Found → Value → Value
+madeIn s (At i) old = applied (effectAt s i) old
+madeIn s Nothing old = old
 
 -- a slot as the place of its transaction
 abbrev pub takenBy : Slot → Place

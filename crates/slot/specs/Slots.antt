@@ -4,6 +4,7 @@ use mathlib.Core.List.{[]}
 use Prim.Native.Nat.{ℕ, zero, suc, _+_}
 use lib.Dec.{eqb, ltb}
 use lib.ListN.{getD, set, replicate}
+use Rattle.rules.specs.declared.Effect.{Effect}
 use Rattle.rules.specs.Limits.{mostRunning, mostKeys}
 use Rattle.column.specs.declared.Found.{Found}
 use Rattle.column.specs.declared.Found.the-variants.{At, Nothing}
@@ -18,7 +19,7 @@ emptySlots = record { occupied = 0; slots = replicate mostRunning emptySlot }
 
 -- what stands for a slot past the eighth
 abbrev pub noSlot : Slot
-noSlot = record { number = 0; snapshot = 0; count = 0; keys = []; values = [] }
+noSlot = record { number = 0; snapshot = 0; count = 0; keys = []; values = []; marks = [] }
 
 -- slot i
 abbrev pub slotAt : Slots → ℕ → Slot
@@ -42,9 +43,9 @@ unfoldable pub firstSlot : (Slot → Bool) → Slots → Found
 firstSlot p h = firstFrom p h 0 mostRunning
 
 -- something was found
-abbrev pub met : Found → Bool
-met (At i) = true
-met Nothing = false
+abbrev pub isFound : Found → Bool
+isFound (At i) = true
+isFound Nothing = false
 
 -- a slot has the number
 abbrev pub hasNumber : ℕ → Slot → Bool
@@ -64,11 +65,11 @@ slotOf h n = firstSlot (hasNumber n) h
 
 -- no occupied slot has more than 32 keys
 abbrev pub slotsShaped : Slots → Bool
-slotsShaped h = not (met (firstSlot isOverfull h))
+slotsShaped h = not (isFound (firstSlot isOverfull h))
 
 -- t is above the snapshot of an occupied slot
 abbrev pub slotsHold : Slots → ℕ → Bool
-slotsHold h t = met (firstSlot (isBelow t) h)
+slotsHold h t = isFound (firstSlot (isBelow t) h)
 
 -- slot i replaced, its bit made b
 abbrev pub replaced : Slots → ℕ → ℕ → Slot → Slots
@@ -78,9 +79,9 @@ replaced h i b s = record { occupied = withBit (h .occupied) i b; slots = set (h
 abbrev pub openedIn : Slots → ℕ → ℕ → Slots
 openedIn h n s = cond (ltb (lowestFree h) mostRunning) (replaced h (lowestFree h) 1 (openedSlot n s)) h
 
--- a write noted in slot i
-abbrev pub notedIn : Slots → ℕ → ℕ → ℕ → Slots
-notedIn h i k v = record { occupied = h .occupied; slots = set (h .slots) i (noted (slotAt h i) k v) }
+-- an update noted in slot i
+abbrev pub notedIn : Slots → ℕ → ℕ → Effect → Slots
+notedIn h i k e = record { occupied = h .occupied; slots = set (h .slots) i (noted (slotAt h i) k e) }
 
 -- slot i freed: all zero, its bit too
 abbrev pub closedIn : Slots → ℕ → Slots

@@ -3,10 +3,11 @@ use mathlib.Core.Bool.{Bool}
 use mathlib.Core.Path.{_≡_, sym, _∙_}
 use Prim.Native.Nat.{ℕ}
 use lib.Count.{ones}
+use Rattle.rules.specs.declared.Effect.{Effect}
 use Rattle.column.specs.declared.Found.{Found}
 use Rattle.slot.specs.declared.Slot.{Slot}
 use Rattle.slot.specs.declared.Slots.{Slots}
-use Rattle.slot.specs.Slot.{emptySlot, openedSlot, keyRow, noted}
+use Rattle.slot.specs.Slot.{emptySlot, openedSlot, keyRow, effectAt, noted}
 use Rattle.slot.specs.Slots.{emptySlots, slotAt, isOccupied, lowestFree, slotOf, slotsShaped, slotsHold, openedIn, closedIn}
 
 -- the slot that `Slot::free` and `Slot::close` answer
@@ -19,8 +20,11 @@ open-unique number snapshot p q = p ∙ sym q
 pub find-row-unique : (slot : Slot) (key : ℕ) {r s : Found} → r ≡ keyRow slot key → s ≡ keyRow slot key → r ≡ s
 find-row-unique slot key p q = p ∙ sym q
 
-pub note-unique : (slot : Slot) (key value : ℕ) {r s : Slot} → r ≡ noted slot key value → s ≡ noted slot key value → r ≡ s
-note-unique slot key value p q = p ∙ sym q
+pub effect-unique : (slot : Slot) (i : ℕ) {r s : Effect} → r ≡ effectAt slot i → s ≡ effectAt slot i → r ≡ s
+effect-unique slot i p q = p ∙ sym q
+
+pub note-unique : (slot : Slot) (key : ℕ) (e : Effect) {r s : Slot} → r ≡ noted slot key e → s ≡ noted slot key e → r ≡ s
+note-unique slot key e p q = p ∙ sym q
 
 pub empty-unique : {r s : Slots} → r ≡ emptySlots → s ≡ emptySlots → r ≡ s
 empty-unique p q = p ∙ sym q

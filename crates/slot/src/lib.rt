@@ -4,13 +4,15 @@ ghost use mathlib.Core.Path.{_≡_};
 ghost use Prim.Native.Nat.{ℕ, _<_};
 ghost use lib.Count.{ones};
 ghost use Rattle.rules.specs.Limits.{mostRunning, mostKeys};
-ghost use Rattle.slot.specs.Slot.{emptySlot, openedSlot, keyRow};
+ghost use Rattle.slot.specs.Slot.{emptySlot, openedSlot, keyRow, effectAt};
 ghost use Rattle.slot.specs.Slot.{noted as notedSlot};
 ghost use Rattle.slot.specs.Slots.{emptySlots, slotAt, isOccupied, lowestFree, slotOf, slotsShaped, slotsHold, openedIn, closedIn};
 ghost use Rattle.slot.specs.Formed.{Formed};
 use column::Found;
+use rules::Effect;
 
-// A transaction's slot: its number and snapshot, and a row for each key that it wrote, with the running value. count rows are in use.
+// A transaction's slot: its number and snapshot, and a row for each key that it wrote, with what its updates of it come to: the mark 0 assigns
+// the value, any other adds it. count rows are in use.
 #[repr(C)]
 pub struct Slot {
     pub number: u32,
@@ -18,6 +20,7 @@ pub struct Slot {
     pub count: usize,
     pub keys: [u32; 32],
     pub values: [u32; 32],
+    pub marks: [u8; 32],
 }
 
 impl Slot {
@@ -34,6 +37,7 @@ impl Slot {
             count: 0,
             keys: [0; Slot::KEYS],
             values: [0; Slot::KEYS],
+            marks: [0; Slot::KEYS],
         }
     }
 
@@ -46,6 +50,7 @@ impl Slot {
         self.count = 0;
         self.keys = [0; Slot::KEYS];
         self.values = [0; Slot::KEYS];
+        self.marks = [0; Slot::KEYS];
         self
     }
 
@@ -68,22 +73,34 @@ impl Slot {
         column::find(&keys, self.count, key)
     }
 
-    // A write noted: the running value goes into the key's row, or into a new one; nothing changes where no row is left for a new key.
-    pub fn note(mut self, key: u32, value: u32) -> Self
-        ensures { λ r. ⌜ r ≡ notedSlot self key value ⌝ }
+    // The effect in row i.
+    pub fn effect(self, i: usize) -> Effect
+        requires { ⌜ i < mostKeys ⌝ }
+        ensures { λ r. ⌜ r ≡ effectAt self i ⌝ }
+    {
+        Effect::by(self.marks[i], self.values[i])
+    }
+
+    // An update noted: the key's row takes it up, or a new one gets it; nothing changes where no row is left for a new key.
+    pub fn note(mut self, key: u32, e: Effect) -> Self
+        ensures { λ r. ⌜ r ≡ notedSlot self key e ⌝ }
     {
         let count = self.count;
         match self.find(key) {
             Found::At(i) => {
-                self.values[i] = value;
+                let both = rules::join(self.effect(i), e);
+                self.values[i] = both.amount();
+                self.marks[i] = both.mark();
                 self
             }
             Found::Nothing => {
+                let amount = e.amount();
                 if count >= Slot::KEYS {
                     return self;
                 }
                 self.keys[count] = key;
-                self.values[count] = value;
+                self.values[count] = amount;
+                self.marks[count] = e.mark();
                 self.count = count + 1;
                 self
             }

@@ -9,7 +9,7 @@ returns : tie.Need-returns
 returns c =
     let a = c .before .args in
     ap
-    (λ (s : Slot). record { number = a .number; snapshot = a .snapshot; count = s .count; keys = s .keys; values = s .values })
+    (λ (s : Slot). record { number = a .number; snapshot = a .snapshot; count = s .count; keys = s .keys; values = s .values; marks = s .marks })
     (c .close .ensures)
 
 pub open-spec : {M : Type 1} → statement M

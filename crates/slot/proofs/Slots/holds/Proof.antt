@@ -5,7 +5,7 @@ use Prim.Native.Nat.{_-_, _≤_}
 use native.Mathlib.Omega.{arith}
 use borrow.Author.Needs.{needs}
 use borrow.Author.Tests.{lt-ltb, le-ltb}
-use Rattle.slot.specs.Slots.{isBelow, met, firstFrom, firstSlot}
+use Rattle.slot.specs.Slots.{isBelow, isFound, firstFrom, firstSlot}
 use Rattle.slot.proofs.Walk.{met-here, other, unoccupied, none}
 use Rattle.slot.proofs.Slots.holds.Statement.{statement}
 use Rattle.slot.proofs.Slots.holds.Tie as tie
@@ -27,7 +27,7 @@ returns c =
     let l = o .before .before .loop in
     let a = o .before .before .before .args in
     let s = f .at .result in
-    ap met (met-here (isBelow (a .t)) (a .self) (l .i) _ (l .inv .1) (omega arith) (sym (o .is-occupied .ensures) ∙ f .before .if1 .taken) s (f .at .ensures) (lt-ltb (s .snapshot) (a .t) (c .if2 .taken)))
+    ap isFound (met-here (isBelow (a .t)) (a .self) (l .i) _ (l .inv .1) (omega arith) (sym (o .is-occupied .ensures) ∙ f .before .if1 .taken) s (f .at .ensures) (lt-ltb (s .snapshot) (a .t) (c .if2 .taken)))
 
 loop-again : tie.Need-loop-again Inv-loop μ-loop
 loop-again c =
@@ -47,7 +47,7 @@ returns-2 : tie.Need-returns-2 Inv-loop μ-loop
 returns-2 c =
     let l = c .before .loop in
     let a = c .before .before .args in
-    ap met (none (isBelow (a .t)) (a .self) (l .i) _ (l .inv .1) (omega arith))
+    ap isFound (none (isBelow (a .t)) (a .self) (l .i) _ (l .inv .1) (omega arith))
 
 pub holds-spec : {M : Type 1} → statement M
 holds-spec =

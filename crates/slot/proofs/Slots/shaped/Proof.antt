@@ -12,7 +12,7 @@ use borrow.Author.Count.{below-more}
 use borrow.Author.Needs.{needs}
 use borrow.Author.Tests.{lt-ltb, le-ltb}
 use Rattle.column.specs.declared.Found.{Found}
-use Rattle.slot.specs.Slots.{slotAt, isOccupied, isOverfull, met, firstFrom, firstSlot}
+use Rattle.slot.specs.Slots.{slotAt, isOccupied, isOverfull, isFound, firstFrom, firstSlot}
 use Rattle.slot.specs.BitLaws.{bit-below}
 use Rattle.slot.specs.Formed.{Rowed}
 use Rattle.slot.proofs.Walk.{met-here, other, unoccupied, none}
@@ -43,7 +43,7 @@ returns c =
     let l = o .before .before .loop in
     let a = o .before .before .before .args in
     let s = f .at .result in (
-      ap (λ (x : Found). not (met x))
+      ap (λ (x : Found). not (isFound x))
           (met-here isOverfull (a .self) (l .i) _ (l .inv .1) (omega arith) (sym (o .is-occupied .ensures) ∙ f .before .if1 .taken) s (f .at .ensures)
           (lt-ltb 32 (s .count) (c .if2 .taken))),
       λ e. absurd (false≢true e),
@@ -57,7 +57,7 @@ loop-again c =
     ⊎-elim
     (λ w.
     let s = w .1 .result in
-    let full : Rowed s = record { keys = search needs; values = search needs; count = w .3 .left } in (
+    let full : Rowed s = record { keys = search needs; values = search needs; marks = search needs; count = w .3 .left } in (
       omega arith,
       other isOverfull (a .self) (l .i) _ (l .inv .1) (omega arith) (sym (o .is-occupied .ensures) ∙ w .0 .taken) s (w .1 .ensures) (le-ltb 32 (s .count) (w .3 .left)),
       below-more _ (l .i) (l .inv .2) (λ _. rw (w .1 .ensures) at full),
@@ -75,7 +75,7 @@ returns-2 c =
     let l = c .before .loop in
     let a = c .before .before .args in
     let byte : a .self .occupied < 256 = search needs in (
-      ap (λ (x : Found). not (met x)) (none isOverfull (a .self) (l .i) _ (l .inv .1) (omega arith)),
+      ap (λ (x : Found). not (isFound x)) (none isOverfull (a .self) (l .i) _ (l .inv .1) (omega arith)),
       λ _.
           record {
             byte = byte;
