@@ -1,10 +1,9 @@
 // Rule 3.4 for versions: the list at a time. The table of the newest rows has its keys in order; each row is followed to its value.
 ghost use mathlib.Core.Path.{_≡_};
-ghost use mathlib.Core.List.{_++_};
+ghost use mathlib.Core.List.{List, _++_};
 ghost use Prim.Native.Nat.{ℕ, _≤_, _<_};
 ghost use lib.ListN.{length, take, drop, getD};
 ghost use Rattle.versions.specs.Versions.{columns, versionsOf, listAt};
-ghost use Rattle.versions.specs.Columns.{Spans};
 ghost use Rattle.table.specs.Table.{Spare, Next};
 ghost use Rattle.newest.specs.Newest.{followed};
 use versions::Version;
@@ -31,8 +30,8 @@ pub fn listing(
     listed: &mut [u32],
     contents: &mut [u32],
 ) -> usize
-    requires { do ⌜ (used ≤ (← ⟦Version::ROWS⟧)) × Spans used (columns (now keys) (now times) (now values)) × Spare (now listed) (now contents) used ⌝ }
-    ensures { λ r. ⌜ Next (listAt (versionsOf used (columns (now (keys .entry)) (now (times .entry)) (now (values .entry)))) t) (now (listed .entry)) (now (contents .entry)) (now (listed .exit)) (now (contents .exit)) r ⌝ }
+    requires { do ⌜ (used ≤ (← ⟦Version::ROWS⟧)) × (used ≤ length (now keys)) × (used ≤ length (now times)) × (used ≤ length (now values)) × Spare (now listed) (now contents) used ⌝ }
+    ensures { λ r. ⌜ ((marks : List ℕ) → Next (listAt (versionsOf used (columns (now (keys .entry)) (now (times .entry)) (now (values .entry)) marks)) t) (now (listed .entry)) (now (contents .entry)) (now (listed .exit)) (now (contents .exit)) r) ⌝ }
 {
     let n = crate::newest_rows(keys, times, used, t, listed, contents);
     follow(values, n, contents);

@@ -12,12 +12,14 @@ pub record Spans (rows : ℕ) (cs : Columns) : Type 0 where
   pub keys : rows ≤ length (cs .keys)
   pub times : rows ≤ length (cs .times)
   pub values : rows ≤ length (cs .values)
+  pub marks : rows ≤ length (cs .marks)
 
 -- the second columns are as long as the first
 pub record Long (cs cs' : Columns) : Type 0 where
   pub keys : length (cs' .keys) ≡ length (cs .keys)
   pub times : length (cs' .times) ≡ length (cs .times)
   pub values : length (cs' .values) ≡ length (cs .values)
+  pub marks : length (cs' .marks) ≡ length (cs .marks)
 
 -- each column changed in one way, which goes by the field of a version that stands there
 abbrev pub each : ((Version → ℕ) → List ℕ → List ℕ) → Columns → Columns
@@ -26,6 +28,7 @@ each change cs =
       keys = change (λ v. v .key) (cs .keys);
       times = change (λ v. v .time) (cs .times);
       values = change (λ v. v .value) (cs .values);
+      marks = change (λ v. v .mark) (cs .marks);
     }
 
 -- a version in row n, and all else as it was
@@ -41,10 +44,10 @@ abbrev pub column : (Version → ℕ) → List Version → List ℕ
 column field [] = []
 column field (v ∷ older) = column field older ++ (field v ∷ [])
 
--- the versions whose rows are marked
-abbrev pub marked : List Bool → List Version → List Version
-marked marks [] = []
-marked marks (v ∷ older) = cond (getD marks (length older) false) (v ∷ marked marks older) (marked marks older)
+-- the versions whose rows are picked
+abbrev pub picked : List Bool → List Version → List Version
+picked picks [] = []
+picked picks (v ∷ older) = cond (getD picks (length older) false) (v ∷ picked picks older) (picked picks older)
 
 -- a column whose first rows are written with versions
 abbrev pub over : (Version → ℕ) → List Version → List ℕ → List ℕ

@@ -1,6 +1,6 @@
 -- The columns and the versions that they hold, and what a search over these says of the rows. Assumes nothing.
 use mathlib.Core.Path.{_≡_, refl, ap, ap₂, _∙_}
-use mathlib.Core.Bool.{true, false, _&&_}
+use mathlib.Core.Bool.{Bool, true, false, not, _&&_}
 use mathlib.Core.List.{List, [], _∷_, _++_, append-assoc}
 use Prim.Native.Nat.{ℕ, zero, suc, _+_, _-_, _≤_, _<_}
 use native.Mathlib.Nat.{not-suc-le-zero}
@@ -16,7 +16,7 @@ use Rattle.rules.specs.Bools.{split, or-right, or-none-left, or-none-right}
 use Rattle.rules.specs.Lists.{among}
 use Rattle.rules.specs.Listing.{Lists, listed-lists}
 use Rattle.versions.specs.declared.Version.{Version}
-use Rattle.versions.specs.Versions.{Columns, columns, versionAt, versionsOf, Best, nothing, at, better, newestStep, newest, rowOf, valueAt, later, isKept, thin, keptFrom, keysOf, listAt}
+use Rattle.versions.specs.Versions.{Columns, columns, versionAt, versionsOf, Best, nothing, at, better, newestStep, newest, rowOf, valueAt, isMarked, later, isKept, thin, keptFrom, keysOf, listAt}
 use Rattle.versions.specs.Columns.{Spans, Long, each, withVersion, column, Kept}
 
 pub length-versions : (n : ℕ) (cs : Columns) → length (versionsOf n cs) ≡ n
@@ -29,37 +29,47 @@ same-rows zero cs cs' h = refl
 same-rows (suc n) cs cs' h = ap₂ (λ (v : Version) (older : List Version). v ∷ older) (h n (omega arith)) (same-rows n cs cs' (λ i l. h i (omega arith)))
 
 -- columns are the same where each of them is
-pub columns-same : {cs cs' : Columns} → cs .keys ≡ cs' .keys → cs .times ≡ cs' .times → cs .values ≡ cs' .values → cs ≡ cs'
-columns-same {cs} {cs'} k t v =
-    ap (λ (x : List ℕ). columns x (cs .times) (cs .values)) k
-    ∙ ap (λ (x : List ℕ). columns (cs' .keys) x (cs .values)) t
-    ∙ ap (λ (x : List ℕ). columns (cs' .keys) (cs' .times) x) v
+pub columns-same : {cs cs' : Columns} → cs .keys ≡ cs' .keys → cs .times ≡ cs' .times → cs .values ≡ cs' .values → cs .marks ≡ cs' .marks
+    → cs ≡ cs'
+columns-same {cs} {cs'} k t v m =
+    ap (λ (x : List ℕ). columns x (cs .times) (cs .values) (cs .marks)) k
+    ∙ ap (λ (x : List ℕ). columns (cs' .keys) x (cs .values) (cs .marks)) t
+    ∙ ap (λ (x : List ℕ). columns (cs' .keys) (cs' .times) x (cs .marks)) v
+    ∙ ap (λ (x : List ℕ). columns (cs' .keys) (cs' .times) (cs' .values) x) m
 
 -- and a version where each of its fields is
-version-same : {v w : Version} → v .key ≡ w .key → v .time ≡ w .time → v .value ≡ w .value → v ≡ w
-version-same {v} {w} k t u =
-    ap (λ (x : ℕ). record { key = x; time = v .time; value = v .value }) k
-    ∙ ap (λ (x : ℕ). record { key = w .key; time = x; value = v .value }) t
-    ∙ ap (λ (x : ℕ). record { key = w .key; time = w .time; value = x }) u
+version-same : {v w : Version} → v .key ≡ w .key → v .time ≡ w .time → v .value ≡ w .value → v .mark ≡ w .mark → v ≡ w
+version-same {v} {w} k t u m =
+    ap (λ (x : ℕ). record { key = x; time = v .time; value = v .value; mark = v .mark }) k
+    ∙ ap (λ (x : ℕ). record { key = w .key; time = x; value = v .value; mark = v .mark }) t
+    ∙ ap (λ (x : ℕ). record { key = w .key; time = w .time; value = x; mark = v .mark }) u
+    ∙ ap (λ (x : ℕ). record { key = w .key; time = w .time; value = w .value; mark = x }) m
 
 -- columns are as long as themselves
 pub long-self : (cs : Columns) → Long cs cs
-long-self cs = record { keys = refl; times = refl; values = refl }
+long-self cs = record { keys = refl; times = refl; values = refl; marks = refl }
 
 module _ {n : ℕ} {cs : Columns} (l : Spans n cs) where
   -- fewer rows are lent too
   pub lent-fewer : {m : ℕ} → m ≤ n → Spans m cs
-  lent-fewer h = record { keys = omega (arith, l .keys); times = omega (arith, l .times); values = omega (arith, l .values) }
+  lent-fewer h =
+      record { keys = omega (arith, l .keys); times = omega (arith, l .times); values = omega (arith, l .values); marks = omega (arith, l .marks) }
 
   -- and so they are in columns of the same length
   pub lent-long : {cs' : Columns} → Long cs cs' → Spans n cs'
-  lent-long w = record { keys = rw (w .keys) (l .keys); times = rw (w .times) (l .times); values = rw (w .values) (l .values) }
+  lent-long w =
+      record {
+        keys = rw (w .keys) (l .keys);
+        times = rw (w .times) (l .times);
+        values = rw (w .values) (l .values);
+        marks = rw (w .marks) (l .marks);
+      }
 
   module _ (change : (Version → ℕ) → List ℕ → List ℕ) where
     -- two ways that make the same of each column that has the rows
     pub each-same : (other : (Version → ℕ) → List ℕ → List ℕ) → ((field : Version → ℕ) (cells : List ℕ) → n ≤ length cells → change field cells ≡ other field cells)
         → each change cs ≡ each other cs
-    each-same other h = columns-same (h _ (cs .keys) (l .keys)) (h _ (cs .times) (l .times)) (h _ (cs .values) (l .values))
+    each-same other h = columns-same (h _ (cs .keys) (l .keys)) (h _ (cs .times) (l .times)) (h _ (cs .values) (l .values)) (h _ (cs .marks) (l .marks))
 
     -- a way that leaves the lengths
     pub each-long : ((field : Version → ℕ) (cells : List ℕ) → n ≤ length cells → length (change field cells) ≡ length cells) → {cs' : Columns} → Long cs cs'
@@ -70,21 +80,22 @@ module _ {n : ℕ} {cs : Columns} (l : Spans n cs) where
           keys = h _ (cs' .keys) (l' .keys) ∙ w .keys;
           times = h _ (cs' .times) (l' .times) ∙ w .times;
           values = h _ (cs' .values) (l' .values) ∙ w .values;
+          marks = h _ (cs' .marks) (l' .marks) ∙ w .marks;
         }
 
     -- a way that puts a version's fields into row i
     pub each-version : (i : ℕ) (v : Version) → ((field : Version → ℕ) (cells : List ℕ) → n ≤ length cells → getD (change field cells) i 0 ≡ field v)
         → versionAt i (each change cs) ≡ v
-    each-version i v h = version-same (h _ (cs .keys) (l .keys)) (h _ (cs .times) (l .times)) (h _ (cs .values) (l .values))
+    each-version i v h = version-same (h _ (cs .keys) (l .keys)) (h _ (cs .times) (l .times)) (h _ (cs .values) (l .values)) (h _ (cs .marks) (l .marks))
 
     -- a way that leaves row i
     pub each-row : (i : ℕ) → ((field : Version → ℕ) (cells : List ℕ) → n ≤ length cells → getD (change field cells) i 0 ≡ getD cells i 0)
         → versionAt i (each change cs) ≡ versionAt i cs
-    each-row i h = version-same (h _ (cs .keys) (l .keys)) (h _ (cs .times) (l .times)) (h _ (cs .values) (l .values))
+    each-row i h = version-same (h _ (cs .keys) (l .keys)) (h _ (cs .times) (l .times)) (h _ (cs .values) (l .values)) (h _ (cs .marks) (l .marks))
 
 -- no row is asked for
 pub none-lent : (cs : Columns) → Spans 0 cs
-none-lent cs = record { keys = omega arith; times = omega arith; values = omega arith }
+none-lent cs = record { keys = omega arith; times = omega arith; values = omega arith; marks = omega arith }
 
 pub length-column : (field : Version → ℕ) (vs : List Version) → length (column field vs) ≡ length vs
 length-column field [] = refl
@@ -213,16 +224,16 @@ module _ (k t : ℕ) (cs : Columns) where
     found-newest e = rw (found-version e) at (newest-says n)
 
 -- a version later than s among the first rows is one among more
-pub later-among : (s k i n : ℕ) (cs : Columns) → i ≤ n → later s k (versionsOf i cs) ≡ true
-    → later s k (versionsOf n cs) ≡ true
-later-among s k i zero cs l h = let z : i ≡ 0 = omega arith in rw z at h
-later-among s k i (suc n) cs l h =
+pub later-among : (s k : ℕ) (adds : Bool) (i n : ℕ) (cs : Columns) → i ≤ n → later s k adds (versionsOf i cs) ≡ true
+    → later s k adds (versionsOf n cs) ≡ true
+later-among s k adds i zero cs l h = let z : i ≡ 0 = omega arith in rw z at h
+later-among s k adds i (suc n) cs l h =
     split (eqb i (suc n))
     (λ e. rw (eqb-true i (suc n) e) at h)
     (λ e.
     let ne = eqb-false i (suc n) e in
-    or-right (eqb (getD (cs .keys) n 0) k && ltb s (getD (cs .times) n 0)) (later s k (versionsOf n cs))
-    (later-among s k i n cs (omega arith) h))
+    or-right (eqb (getD (cs .keys) n 0) k && (ltb s (getD (cs .times) n 0) && not (adds && isMarked (versionAt n cs)))) (later s k adds (versionsOf n cs))
+    (later-among s k adds i n cs (omega arith) h))
 
 -- the columns of some versions hold them, whatever stands behind
 pub column-versions : (rows : List Version) (behind : Columns) → versionsOf (length rows) (each (λ field cells. column field rows ++ cells) behind) ≡ rows

@@ -56,11 +56,11 @@ module _ (k : ℕ) (cs : Columns) where
       let e : i + suc m ≡ suc (i + m) = omega arith in
       rw (e, ne-eqb (getD (cs .keys) (i + m) 0) k (h (i + m) (omega arith) (omega arith))) (newest-past t i m (λ j a b. h j a (omega arith)))
 
-  later-past : (s i m : ℕ) → Without i m → later s k (versionsOf (i + m) cs) ≡ later s k (versionsOf i cs)
-  later-past s i zero h = let e : i + 0 ≡ i = omega arith in rw e
-  later-past s i (suc m) h =
+  later-past : (s : ℕ) (adds : Bool) (i m : ℕ) → Without i m → later s k adds (versionsOf (i + m) cs) ≡ later s k adds (versionsOf i cs)
+  later-past s adds i zero h = let e : i + 0 ≡ i = omega arith in rw e
+  later-past s adds i (suc m) h =
       let e : i + suc m ≡ suc (i + m) = omega arith in
-      rw (e, ne-eqb (getD (cs .keys) (i + m) 0) k (h (i + m) (omega arith) (omega arith))) (later-past s i m (λ j a b. h j a (omega arith)))
+      rw (e, ne-eqb (getD (cs .keys) (i + m) 0) k (h (i + m) (omega arith) (omega arith))) (later-past s adds i m (λ j a b. h j a (omega arith)))
 
   module _ {i n r : ℕ} (w : Passed k (cs .keys) i n r) where
     without : Without i (r - i)
@@ -69,14 +69,14 @@ module _ (k : ℕ) (cs : Columns) where
     pub newest-passed : (t : ℕ) → newest k t (versionsOf r cs) ≡ newest k t (versionsOf i cs)
     newest-passed t = let e : i + (r - i) ≡ r = omega (arith, w .from) in rw e at (newest-past t i (r - i) without)
 
-    pub later-passed : (s : ℕ) → later s k (versionsOf r cs) ≡ later s k (versionsOf i cs)
-    later-passed s = let e : i + (r - i) ≡ r = omega (arith, w .from) in rw e at (later-past s i (r - i) without)
+    pub later-passed : (s : ℕ) (adds : Bool) → later s k adds (versionsOf r cs) ≡ later s k adds (versionsOf i cs)
+    later-passed s adds = let e : i + (r - i) ≡ r = omega (arith, w .from) in rw e at (later-past s adds i (r - i) without)
 
   -- no version of early rows is later
-  pub early-none : (s n : ℕ) → Early s (cs .times) n → later s k (versionsOf n cs) ≡ false
-  early-none s zero h = refl
-  early-none s (suc n) h =
-      rw (le-ltb s (getD (cs .times) n 0) (h n (omega arith)), and-false (eqb (getD (cs .keys) n 0) k)) (early-none s n (λ j l. h j (omega arith)))
+  pub early-none : (s : ℕ) (adds : Bool) (n : ℕ) → Early s (cs .times) n → later s k adds (versionsOf n cs) ≡ false
+  early-none s adds zero h = refl
+  early-none s adds (suc n) h =
+      rw (le-ltb s (getD (cs .times) n 0) (h n (omega arith)), and-false (eqb (getD (cs .keys) n 0) k)) (early-none s adds n (λ j l. h j (omega arith)))
 
 module _ (k : ℕ) (ks : List ℕ) (m n : ℕ) where
   -- nothing is passed yet

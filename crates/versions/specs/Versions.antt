@@ -1,6 +1,6 @@
 -- Rules 3.6, 3.8 and 3.10 on the versions of the map store, the newest row first: the newest version of a key at or before a time, its value,
 -- a version later than a snapshot, what a checkpoint keeps, and the list at a time. Assumes nothing.
-use mathlib.Core.Bool.{Bool, true, false, cond, _&&_, _||_}
+use mathlib.Core.Bool.{Bool, true, false, cond, not, _&&_, _||_}
 use mathlib.Core.List.{List, [], _∷_}
 use Prim.Native.Nat.{ℕ, zero, suc}
 use lib.Dec.{eqb, leb, ltb}
@@ -18,22 +18,24 @@ pub record Columns : Type 0 where
   pub keys : List ℕ
   pub times : List ℕ
   pub values : List ℕ
+  pub marks : List ℕ
 
 -- the columns as they are lent, side by side
-abbrev pub columns : List ℕ → List ℕ → List ℕ → Columns
-columns keys times values = record { keys = keys; times = times; values = values }
+abbrev pub columns : List ℕ → List ℕ → List ℕ → List ℕ → Columns
+columns keys times values marks = record { keys = keys; times = times; values = values; marks = marks }
 
 -- columns without rows
 abbrev pub noColumns : Columns
-noColumns = columns [] [] []
+noColumns = columns [] [] [] []
 
 -- columns with these keys and times: a search reads no others, so that these may be any
 abbrev pub keyed : List ℕ → List ℕ → Columns → Columns
-keyed keys times others = record { keys = keys; times = times; values = others .values }
+keyed keys times others = record { keys = keys; times = times; values = others .values; marks = others .marks }
 
 -- the version in row i
 abbrev pub versionAt : ℕ → Columns → Version
-versionAt i cs = record { key = getD (cs .keys) i 0; time = getD (cs .times) i 0; value = getD (cs .values) i 0 }
+versionAt i cs =
+    record { key = getD (cs .keys) i 0; time = getD (cs .times) i 0; value = getD (cs .values) i 0; mark = getD (cs .marks) i 0 }
 
 -- the first n rows of the columns, the last one first
 abbrev pub versionsOf : ℕ → Columns → List Version
@@ -73,10 +75,14 @@ shown (at i t v) = Present v
 abbrev pub valueAt : ℕ → ℕ → List Version → Value
 valueAt k t vs = shown (newest k t vs)
 
--- there is a version of k later than s
-abbrev pub later : ℕ → ℕ → List Version → Bool
-later s k [] = false
-later s k (v ∷ older) = (eqb (v .key) k && ltb s (v .time)) || later s k older
+-- a version is marked: adds alone made it
+abbrev pub isMarked : Version → Bool
+isMarked v = not (eqb (v .mark) 0)
+
+-- rule 3.6: there is a version of k later than s that met a transaction; if that one only added to k, marked versions do not count
+abbrev pub later : ℕ → ℕ → Bool → List Version → Bool
+later s k adds [] = false
+later s k adds (v ∷ older) = (eqb (v .key) k && (ltb s (v .time) && not (adds && isMarked v))) || later s k adds older
 
 -- row i is the one that was found
 abbrev pub isRow : ℕ → Best → Bool

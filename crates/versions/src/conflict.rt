@@ -1,11 +1,12 @@
-// Rule 3.6: whether a key has a version later than a snapshot. The versions in front that are not later are passed once for all keys of a commit:
-// in a store that calls wrote these are all that were there when it began.
+// Rule 3.6: whether a key has a version later than a snapshot; two that only added excuse each other. The versions in front that are not later are
+// passed once for all keys of a commit: in a store that calls wrote these are all that were there when it began.
 ghost use mathlib.Core.Path.{_≡_};
-ghost use mathlib.Core.Bool.{false};
-ghost use Prim.Native.Nat.{_≤_};
-ghost use lib.Dec.{ltb};
+ghost use mathlib.Core.Bool.{false, not, _&&_};
+ghost use mathlib.Core.List.{List};
+ghost use Prim.Native.Nat.{ℕ, _≤_};
+ghost use lib.Dec.{eqb, ltb};
 ghost use lib.ListN.{length};
-ghost use Rattle.versions.specs.Versions.{Columns, keyed, versionsOf, later};
+ghost use Rattle.versions.specs.Versions.{columns, versionsOf, later};
 ghost use Rattle.versions.specs.Search.{some, Early, FirstLate};
 use crate::Version;
 
@@ -55,16 +56,35 @@ pub fn first_late(times: &[u64], used: usize, s: u64) -> usize
     i
 }
 
-// Whether there is a version of k later than s up to row `to`, where there is none before row `from`: the rows between, one by one.
-fn is_later_among(keys: &[u32], times: &[u64], from: usize, to: usize, k: u32, s: u64) -> bool
-    requires { ⌜ (from ≤ to) × (to ≤ length (now keys)) × (to ≤ length (now times)) × ((others : Columns) → later s k (versionsOf from (keyed (now keys) (now times) others)) ≡ false) ⌝ }
-    ensures { λ r. ⌜ ((others : Columns) → r ≡ later s k (versionsOf to (keyed (now (keys .entry)) (now (times .entry)) others))) ⌝ }
+// Whether a later version meets a transaction: not if adds alone made it and the transaction only added.
+fn meets(mark: u8, adds: bool) -> bool
+    ensures { λ r. ⌜ r ≡ not (adds && not (eqb mark 0)) ⌝ }
+{
+    !(adds & (mark != 0))
+}
+
+// Whether there is a version of k later than s that meets the transaction up to row `to`, where there is none before row `from`: the rows between,
+// one by one.
+fn is_later_among(
+    keys: &[u32],
+    times: &[u64],
+    marks: &[u8],
+    from: usize,
+    to: usize,
+    k: u32,
+    adds: bool,
+    s: u64,
+) -> bool
+    requires { ⌜ (from ≤ to) × (to ≤ length (now keys)) × (to ≤ length (now times)) × (to ≤ length (now marks)) × ((values : List ℕ) → later s k adds (versionsOf from (columns (now keys) (now times) values (now marks))) ≡ false) ⌝ }
+    ensures { λ r. ⌜ ((values : List ℕ) → r ≡ later s k adds (versionsOf to (columns (now (keys .entry)) (now (times .entry)) values (now (marks .entry))))) ⌝ }
 {
     let mut i = from;
     while i < to {
         if keys[i] == k {
             if times[i] > s {
-                return true;
+                if meets(marks[i], adds) {
+                    return true;
+                }
             }
         }
         i += 1;
@@ -72,10 +92,20 @@ fn is_later_among(keys: &[u32], times: &[u64], from: usize, to: usize, k: u32, s
     false
 }
 
-// Rule 3.6: whether there is a version of k later than s, where the rows before `from` have no later time.
-pub fn is_later(keys: &[u32], times: &[u64], from: usize, used: usize, k: u32, s: u64) -> bool
-    requires { ⌜ (from ≤ used) × (used ≤ length (now keys)) × (used ≤ length (now times)) × Early s (now times) from ⌝ }
-    ensures { λ r. ⌜ ((others : Columns) → r ≡ later s k (versionsOf used (keyed (now (keys .entry)) (now (times .entry)) others))) ⌝ }
+// Rule 3.6: whether there is a version of k later than s that meets a transaction which only added to k or not, where the rows before `from` have
+// no later time.
+pub fn is_later(
+    keys: &[u32],
+    times: &[u64],
+    marks: &[u8],
+    from: usize,
+    used: usize,
+    k: u32,
+    adds: bool,
+    s: u64,
+) -> bool
+    requires { ⌜ (from ≤ used) × (used ≤ length (now keys)) × (used ≤ length (now times)) × (used ≤ length (now marks)) × Early s (now times) from ⌝ }
+    ensures { λ r. ⌜ ((values : List ℕ) → r ≡ later s k adds (versionsOf used (columns (now (keys .entry)) (now (times .entry)) values (now (marks .entry))))) ⌝ }
 {
     let mut i = from;
     loop {
@@ -84,7 +114,7 @@ pub fn is_later(keys: &[u32], times: &[u64], from: usize, used: usize, k: u32, s
             return false;
         }
         let end = crate::near(i, used);
-        if is_later_among(keys, times, i, end, k, s) {
+        if is_later_among(keys, times, marks, i, end, k, adds, s) {
             return true;
         }
         i = end;

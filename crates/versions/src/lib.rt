@@ -1,4 +1,4 @@
-// The versions of the map store: lent columns of keys, commit times and values, of which the first `used` rows count.
+// The versions of the map store: lent columns of keys, commit times, values and marks, of which the first `used` rows count.
 mod conflict;
 mod search;
 
@@ -6,20 +6,24 @@ pub use conflict::first_late;
 pub use conflict::is_later;
 pub use search::newest_row;
 ghost use mathlib.Core.Path.{_≡_};
-ghost use Prim.Native.Nat.{_+_, _≤_, _<_, min};
+ghost use mathlib.Core.List.{List};
+ghost use Prim.Native.Nat.{ℕ, _+_, _≤_, _<_, min};
 ghost use lib.Dec.{eqb};
 ghost use lib.ListN.{length};
+ghost use Rattle.rules.specs.Effects.{applied};
 ghost use Rattle.versions.specs.Versions.{columns, versionsOf, valueAt};
 ghost use Rattle.versions.specs.Columns.{Spans, withVersion};
 ghost use Rattle.versions.specs.Search.{some, Passed};
 use column::Found;
+use rules::Effect;
 use rules::Value;
 
-// What a commit gave a key: a row of the three columns.
+// What a commit gave a key: a row of the four columns. The mark is 0 unless adds alone made the value.
 pub struct Version {
     pub key: u32,
     pub time: u64,
     pub value: u32,
+    pub mark: u8,
 }
 
 impl Version {
@@ -80,8 +84,8 @@ fn near(i: usize, used: usize) -> usize
 
 // The value of k at t, or absent.
 pub fn value_at(keys: &[u32], times: &[u64], values: &[u32], used: usize, k: u32, t: u64) -> Value
-    requires { ⌜ Spans used (columns (now keys) (now times) (now values)) ⌝ }
-    ensures { λ r. ⌜ r ≡ valueAt k t (versionsOf used (columns (now (keys .entry)) (now (times .entry)) (now (values .entry)))) ⌝ }
+    requires { ⌜ (used ≤ length (now keys)) × (used ≤ length (now times)) × (used ≤ length (now values)) ⌝ }
+    ensures { λ r. ⌜ ((marks : List ℕ) → r ≡ valueAt k t (versionsOf used (columns (now (keys .entry)) (now (times .entry)) (now (values .entry)) marks))) ⌝ }
 {
     let found = search::newest_row(keys, times, used, k, t);
     match found {
@@ -90,20 +94,39 @@ pub fn value_at(keys: &[u32], times: &[u64], values: &[u32], used: usize, k: u32
     }
 }
 
+// What an effect makes of the value of k at t: an assign asks for no old value, and so for no search.
+pub fn applied_at(
+    keys: &[u32],
+    times: &[u64],
+    values: &[u32],
+    used: usize,
+    k: u32,
+    t: u64,
+    e: Effect,
+) -> Value
+    requires { ⌜ (used ≤ length (now keys)) × (used ≤ length (now times)) × (used ≤ length (now values)) ⌝ }
+    ensures { λ r. ⌜ ((marks : List ℕ) → r ≡ applied e (valueAt k t (versionsOf used (columns (now (keys .entry)) (now (times .entry)) (now (values .entry)) marks)))) ⌝ }
+{
+    match e {
+        Effect::Assign(v) => Value::Present(v),
+        Effect::Add(_) => rules::apply(e, value_at(keys, times, values, used, k, t)),
+    }
+}
+
 // Rule 3.8: one version more, in row `used`.
 pub fn append(
     keys: &mut [u32],
     times: &mut [u64],
     values: &mut [u32],
+    marks: &mut [u8],
     used: usize,
-    k: u32,
-    t: u64,
-    v: u32,
+    v: Version,
 )
-    requires { ⌜ Spans (used + 1) (columns (now keys) (now times) (now values)) ⌝ }
-    ensures { λ _. ⌜ columns (now (keys .exit)) (now (times .exit)) (now (values .exit)) ≡ withVersion used (record { key = k; time = t; value = v }) (columns (now (keys .entry)) (now (times .entry)) (now (values .entry))) ⌝ }
+    requires { ⌜ Spans (used + 1) (columns (now keys) (now times) (now values) (now marks)) ⌝ }
+    ensures { λ _. ⌜ columns (now (keys .exit)) (now (times .exit)) (now (values .exit)) (now (marks .exit)) ≡ withVersion used v (columns (now (keys .entry)) (now (times .entry)) (now (values .entry)) (now (marks .entry))) ⌝ }
 {
-    keys[used] = k;
-    times[used] = t;
-    values[used] = v;
+    keys[used] = v.key;
+    times[used] = v.time;
+    values[used] = v.value;
+    marks[used] = v.mark;
 }

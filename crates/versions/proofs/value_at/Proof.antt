@@ -1,5 +1,6 @@
 -- `versions::value_at` meets its contract: the row found is a used one, and the value that stands there is the newest version's.
 use mathlib.Core.Path.{_≡_, sym, _∙_}
+use mathlib.Core.List.{[]}
 use Prim.Native.Nat.{ℕ, _<_}
 use native.Mathlib.Omega.{arith}
 use borrow.Author.Needs.{needs}
@@ -29,8 +30,8 @@ mul-t10 c =
     let n = f .before .before in
     let s = n .before .before .before .before in
     let a = s .args in
-    let cs = columns (now (a .keys)) (now (a .times)) (now (a .values)) in
-    omega (arith, within cs (a .used) (a .k) (a .t) _ (n .newest-row .ensures cs) _ (f .found .given .1), s .pre .values)
+    let cs = columns (now (a .keys)) (now (a .times)) (now (a .values)) [] in
+    omega (arith, within cs (a .used) (a .k) (a .t) _ (n .newest-row .ensures cs) _ (f .found .given .1), s .pre .2)
 
 shared-slice-read-t12 : tie.Need-shared-slice-read-t12
 shared-slice-read-t12 c =
@@ -38,22 +39,22 @@ shared-slice-read-t12 c =
     let n = f .before .before in
     let s = n .before .before .before .before in
     let a = s .args in
-    let cs = columns (now (a .keys)) (now (a .times)) (now (a .values)) in
-    omega (arith, within cs (a .used) (a .k) (a .t) _ (n .newest-row .ensures cs) _ (f .found .given .1), s .pre .values)
+    let cs = columns (now (a .keys)) (now (a .times)) (now (a .values)) [] in
+    omega (arith, within cs (a .used) (a .k) (a .t) _ (n .newest-row .ensures cs) _ (f .found .given .1), s .pre .2)
 
 returns : tie.Need-returns
-returns c =
+returns c marks =
     let f = c .before .before in
     let n = f .before .before in
     let a = n .before .before .before .before .args in
-    let cs = columns (now (a .keys)) (now (a .times)) (now (a .values)) in
+    let cs = columns (now (a .keys)) (now (a .times)) (now (a .values)) marks in
     value cs (a .used) (a .k) (a .t) _ (n .newest-row .ensures cs) _ (f .found .given .1)
 
 returns-2 : tie.Need-returns-2
-returns-2 c =
+returns-2 c marks =
     let n = c .before .before in
     let a = n .before .before .before .before .args in
-    let cs = columns (now (a .keys)) (now (a .times)) (now (a .values)) in
+    let cs = columns (now (a .keys)) (now (a .times)) (now (a .values)) marks in
     absent cs (a .used) (a .k) (a .t) _ (n .newest-row .ensures cs) (c .enum-told .given .1)
 
 pub value-at-spec : {M : Type 1} → statement M

@@ -24,18 +24,18 @@ more cs m i l h w =
     rw w (each-same h (λ field cells. set (zeroed m i cells) i 0) (λ field. zeroed m (i + 1)) (λ field cells k. clear-more m i cells l (omega arith)))
 
 abbrev Inv-loop : tie.InvT-loop
-Inv-loop keys₀ times₀ values₀ from to i₀ keys times values i =
-    let cs = columns keys₀ times₀ values₀ in
-    let cs' = columns keys times values in
+Inv-loop keys₀ times₀ values₀ marks₀ from to i₀ keys times values marks i =
+    let cs = columns keys₀ times₀ values₀ marks₀ in
+    let cs' = columns keys times values marks in
     (from ≤ i) × (i ≤ to) × Long cs cs' × (cs' ≡ cleared from i cs)
 
 abbrev μ-loop : tie.MeasureT-loop
-μ-loop keys₀ times₀ values₀ from to i₀ keys times values i = to - i
+μ-loop keys₀ times₀ values₀ marks₀ from to i₀ keys times values marks i = to - i
 
 loop-holds : tie.Need-loop-holds Inv-loop μ-loop
 loop-holds c =
     let a = c .args in
-    let cs = columns (now (a .keys)) (now (a .times)) (now (a .values)) in (
+    let cs = columns (now (a .keys)) (now (a .times)) (now (a .values)) (now (a .marks)) in (
       omega arith,
       omega arith,
       long-self cs,
@@ -47,7 +47,7 @@ loop-again c =
     let l = c .before .loop in
     let s = c .before .before in
     let a = s .args in
-    let cs = columns (now (a .keys)) (now (a .times)) (now (a .values)) in (
+    let cs = columns (now (a .keys)) (now (a .times)) (now (a .values)) (now (a .marks)) in (
       omega arith,
       omega arith,
       long-set (l .inv .2) (l .i) (λ cells. 0),
@@ -62,5 +62,5 @@ returns c =
 
 pub clear-spec : {M : Type 1} → statement M
 clear-spec =
-    tie.close (tie.spec Inv-loop μ-loop loop-holds (λ c. search needs) (λ c. search needs) (λ c. search needs) (λ c. search needs) (λ c. search needs)
-    (λ c. search needs) (λ c. search needs) (λ c. search needs) loop-again (λ c. search needs) (λ c. search needs) (λ c. search needs) returns)
+    tie.close (tie.spec Inv-loop μ-loop loop-holds (λ c. search needs) (λ c. search needs) (λ c. search needs) (λ c. search needs) (λ c. search needs) (λ c. search needs)
+    (λ c. search needs) (λ c. search needs) (λ c. search needs) loop-again (λ c. search needs) (λ c. search needs) (λ c. search needs) (λ c. search needs) returns)

@@ -1,4 +1,4 @@
--- `newest::checkpoint::mark_kept` meets its contract: a row is marked as late, as named by the table, or as the newest of key 0, which is all that stays.
+-- `newest::checkpoint::pick_kept` meets its contract: a row is picked as late, as named by the table, or as the newest of key 0, which is all that stays.
 use mathlib.Core.Path.{_≡_, refl, _∙_}
 use mathlib.Core.Bool.{Bool, true, false, _||_}
 use mathlib.Core.List.{List}
@@ -14,8 +14,8 @@ use Rattle.table.specs.Table.{Next}
 use Rattle.table.specs.Laws.{next-within}
 use Rattle.newest.specs.Newest.{newestRows}
 use Rattle.newest.specs.Laws.{named, kept-row}
-use Rattle.newest.proofs.checkpoint.mark_kept.Statement.{statement}
-use Rattle.newest.proofs.checkpoint.mark_kept.Tie as tie
+use Rattle.newest.proofs.checkpoint.pick_kept.Statement.{statement}
+use Rattle.newest.proofs.checkpoint.pick_kept.Tie as tie
 
 last-first : (a b c : Bool) → (a || (b || c)) ≡ (c || (a || b))
 last-first true b true = refl
@@ -25,15 +25,15 @@ last-first false true false = refl
 last-first false false true = refl
 last-first false false false = refl
 
-marked : (ks ts : List ℕ) (others : Columns) (t n : ℕ) {a b a' b' : List ℕ} {m : ℕ} → Next (newestRows ks ts t n) a b a' b' m → (i : ℕ) (late also all : Bool)
+picked : (ks ts : List ℕ) (others : Columns) (t n : ℕ) {a b a' b' : List ℕ} {m : ℕ} → Next (newestRows ks ts t n) a b a' b' m → (i : ℕ) (late also all : Bool)
     → late ≡ ltb t (getD ts i 0) → also ≡ (among i (take m b') || late) → all ≡ (isRow i (newest 0 t (versionsOf n (keyed ks ts others))) || also)
     → all ≡ isKept t (versionsOf n (keyed ks ts others)) i (versionAt i (keyed ks ts others))
-marked ks ts others t n {b' = b'} {m = m} w i late also all p q r =
+picked ks ts others t n {b' = b'} {m = m} w i late also all p q r =
     rw (r, q, p)
     (last-first (isRow i (newest 0 t (versionsOf n (keyed ks ts others)))) (among i (take m b')) (ltb t (getD ts i 0)) ∙ rw (kept-row ks ts t n w others i))
 
-mark-named-requires : tie.Need-mark-named-requires
-mark-named-requires c κs =
+pick-named-requires : tie.Need-pick-named-requires
+pick-named-requires c κs =
     let l = c .before .before .before .before in
     let g = l .before .before .before .before .before .before in
     let s = g .before .before .before .before .before .before .before .before in
@@ -50,10 +50,10 @@ returns c others i h =
     let g = l .before .before .before .before .before .before in
     let s = g .before .before .before .before .before .before .before .before in
     let a = s .args in
-    marked (now (a .keys)) (now (a .times)) others (a .t) (a .used) (g .newest-rows .ensures) i _ _ _ (l .mark-late .ensures i h) (m .mark-named .ensures i)
-    (z .mark-zero .ensures others i)
+    picked (now (a .keys)) (now (a .times)) others (a .t) (a .used) (g .newest-rows .ensures) i _ _ _ (l .pick-late .ensures i h) (m .pick-named .ensures i)
+    (z .pick-zero .ensures others i)
 
-pub mark-kept-spec : {M : Type 1} → statement M
-mark-kept-spec =
-    tie.close (tie.spec (λ c κs. search needs) (λ c κs. search needs) mark-named-requires (λ c κs. search needs) (λ c. search needs)
+pub pick-kept-spec : {M : Type 1} → statement M
+pick-kept-spec =
+    tie.close (tie.spec (λ c κs. search needs) (λ c κs. search needs) pick-named-requires (λ c κs. search needs) (λ c. search needs)
     (λ c. search needs) (λ c. search needs) returns)
