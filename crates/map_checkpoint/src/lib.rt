@@ -13,11 +13,12 @@ pub fn checkpoint(
     keys: &mut [u32],
     times: &mut [u64],
     values: &mut [u32],
+    marks: &mut [u8],
     t: u64,
 ) -> Outcome
-    ensures { λ r. ⌜ Checkpointed t h (columns (now (keys .entry)) (now (times .entry)) (now (values .entry))) (ofDone (r .answer)) (r .head) (columns (now (keys .exit)) (now (times .exit)) (now (values .exit))) ⌝ }
+    ensures { λ r. ⌜ Checkpointed t h (columns (now (keys .entry)) (now (times .entry)) (now (values .entry)) (now (marks .entry))) (ofDone (r .answer)) (r .head) (columns (now (keys .exit)) (now (times .exit)) (now (values .exit)) (now (marks .exit))) ⌝ }
 {
-    if !map_store::shaped(h, keys.len(), times.len(), values.len()) {
+    if !map_store::shaped(h, keys.len(), times.len(), values.len(), marks.len()) {
         return map_store::refused(h, Refusal::BadShape);
     }
     if t < h.low {
@@ -30,7 +31,7 @@ pub fn checkpoint(
     if slots.holds(t) {
         return map_store::refused(h, Refusal::Held);
     }
-    let used = newest::keep_from(keys, times, values, h.used, t);
+    let used = newest::keep_from(keys, times, values, marks, h.used, t);
     Outcome {
         head: MapHead {
             low: t,

@@ -1,13 +1,14 @@
--- How the parts of a commit make its contract: a law for each way out. Assumes nothing.
+-- The parts of a commit, and how they make its contract: a law for each way out. Assumes nothing.
 use mathlib.Core.Path.{_≡_, refl, sym}
-use mathlib.Core.Bool.{Bool, true, false, cond}
+use mathlib.Core.Bool.{Bool, true, false, cond, not}
 use mathlib.Core.List.{List}
 use Prim.Native.Nat.{ℕ, _+_, _≤_}
 use native.Mathlib.Nat.{min-le-right}
 use native.Mathlib.Omega.{arith}
 use lib.Dec.{eqb}
-use lib.ListN.{length}
+use lib.ListN.{length, getD}
 use Rattle.rules.specs.Limits.{mostVersions}
+use Rattle.rules.specs.declared.Value.{Value}
 use Rattle.rules.specs.declared.Value.the-variants.{Absent}
 use Rattle.rules.specs.Calls.{Commit}
 use Rattle.answer.specs.declared.Refusal.{Refusal}
@@ -15,34 +16,52 @@ use Rattle.answer.specs.declared.Refusal.the-variants.{BadShape}
 use Rattle.answer.specs.declared.Done.the-variants as done
 use Rattle.answer.specs.Reply.{Reply, refused, accepted, ofDone}
 use Rattle.answer.specs.Laws.{refused-some, after-refused}
+use Rattle.slot.specs.declared.Slot.{Slot}
+use Rattle.slot.specs.Slot.{effectAt}
 use Rattle.slot.specs.Slots.{slotOf}
-use Rattle.slot.specs.Places.{Note}
-use Rattle.versions.specs.Versions.{Columns}
+use Rattle.slot.specs.Places.{Note, hasKey, notesOf}
+use Rattle.versions.specs.Versions.{Columns, versionsOf, valueAt}
 use Rattle.versions.specs.Columns.{Spans}
 use Rattle.map_store.specs.declared.MapHead.{MapHead}
 use Rattle.map_store.specs.declared.Outcome.{Outcome}
-use Rattle.map_store.specs.Meaning.{mapAnswer}
+use Rattle.map_store.specs.Meaning.{mapAnswer, newestValue}
 use Rattle.map_store.specs.Shape.{lengths, isShaped, Shaped, roomOf, meaning}
 use Rattle.map_store.specs.Heads.{committedHead, rowsIn, stamped}
 use Rattle.map_store.specs.Contracts.{number, Decided, Committed}
 use Rattle.map_store.specs.Laws.{number-bad, number-good, changed, bad-shape, answered}
 
+-- the first i rows of a slot
+abbrev pub rowsTo : Slot → ℕ → List Note
+rowsTo s i = notesOf (s .keys) (s .values) (s .marks) i
+
+-- row i of a slot
+abbrev pub rowAt : Slot → ℕ → Note
+rowAt s i = record { key = getD (s .keys) i 0; effect = effectAt s i }
+
+-- row i is the first that has its key
+abbrev pub isFirst : Slot → ℕ → Bool
+isFirst s i = not (hasKey (getD (s .keys) i 0) (rowsTo s i))
+
+-- the value of a key at last, by the used rows
+abbrev pub newestIn : ℕ → ℕ → Columns → ℕ → Value
+newestIn last used cs k = valueAt k last (versionsOf used cs)
+
 -- the columns with some rows written behind their used ones at one commit time, and how many are used then
-pub record Stamped (t used : ℕ) (rows : List Note) (cs cs' : Columns) (r : ℕ) : Type 0 where
+pub record Stamped (newest : ℕ → Value) (t used : ℕ) (rows : List Note) (cs cs' : Columns) (r : ℕ) : Type 0 where
   pub count : r ≡ used + length rows
-  pub cells : cs' ≡ stamped used t rows cs
+  pub cells : cs' ≡ stamped newest used t rows cs
 
 -- what a commit that is accepted or not makes of the head and the columns
 pub record Put (n t : ℕ) (h : MapHead) (cs : Columns) (accepted : Bool) (head : MapHead) (cs' : Columns) : Type 0 where
   pub headed : head ≡ cond accepted (committedHead t (slotOf (h .slots) n) h) h
-  pub cells : cs' ≡ cond accepted (stamped (h .used) t (rowsIn (h .slots) (slotOf (h .slots) n)) cs) cs
+  pub cells : cs' ≡ cond accepted (stamped (newestValue (meaning h cs)) (h .used) t (rowsIn (h .slots) (slotOf (h .slots) n)) cs) cs
 
 -- rows for which there is room behind the used ones are lent
 pub room-lent : (h : MapHead) (cs : Columns) → Shaped h (lengths cs) → (rows : ℕ) → h .used + rows ≤ roomOf (length (cs .keys))
     → Spans (h .used + rows) cs
 room-lent h cs w rows l =
     let r = min-le-right mostVersions (length (cs .keys)) in
-    record { keys = omega arith; times = omega (arith, w .times); values = omega (arith, w .values) }
+    record { keys = omega arith; times = omega (arith, w .times); values = omega (arith, w .values); marks = omega (arith, w .marks) }
 
 module _ {n t : ℕ} {h : MapHead} {cs : Columns} where
   pub commit-bad-shape : isShaped h (lengths cs) ≡ false → Committed n t h cs (refused BadShape) h cs

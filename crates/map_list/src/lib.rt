@@ -1,10 +1,10 @@
 // The map store's list: every key that has a value at a time from low to last, rising, with its value. Refusals 1, 4, 5, 12.
 ghost use mathlib.Core.Path.{_≡_};
-ghost use Prim.Native.Nat.{_≤_, _<_};
+ghost use mathlib.Core.List.{List};
+ghost use Prim.Native.Nat.{ℕ, _≤_, _<_};
 ghost use lib.ListN.{length};
 ghost use Rattle.answer.specs.Reply.{ofListed};
 ghost use Rattle.versions.specs.Versions.{columns, versionsOf, listAt};
-ghost use Rattle.versions.specs.Columns.{Spans};
 ghost use Rattle.table.specs.Table.{Spare};
 ghost use Rattle.map_store.specs.Contracts.{ListedAt};
 ghost use Rattle.map_list.specs.List.{ListedIn};
@@ -25,8 +25,8 @@ fn write(
     out_keys: &mut [u32],
     out_values: &mut [u32],
 ) -> Listed
-    requires { do ⌜ Spans used (columns (now keys) (now times) (now values)) × (used ≤ (← ⟦Version::ROWS⟧)) × Spare (now listed) (now contents) used × (length (now «out_keys») ≡ length (now «out_values»)) ⌝ }
-    ensures { λ r. ⌜ ListedIn (listAt (versionsOf used (columns (now (keys .entry)) (now (times .entry)) (now (values .entry)))) t) (now («out_keys» .entry)) (now («out_values» .entry)) (ofListed r) (now («out_keys» .exit)) (now («out_values» .exit)) ⌝ }
+    requires { do ⌜ (used ≤ length (now keys)) × (used ≤ length (now times)) × (used ≤ length (now values)) × (used ≤ (← ⟦Version::ROWS⟧)) × Spare (now listed) (now contents) used × (length (now «out_keys») ≡ length (now «out_values»)) ⌝ }
+    ensures { λ r. ⌜ ((marks : List ℕ) → ListedIn (listAt (versionsOf used (columns (now (keys .entry)) (now (times .entry)) (now (values .entry)) marks)) t) (now («out_keys» .entry)) (now («out_values» .entry)) (ofListed r) (now («out_keys» .exit)) (now («out_values» .exit))) ⌝ }
 {
     let count = newest::listing(keys, times, values, used, t, listed, contents);
     if out_keys.len() < count {
@@ -47,8 +47,8 @@ fn write_any(
     out_keys: &mut [u32],
     out_values: &mut [u32],
 ) -> Listed
-    requires { do ⌜ Spans used (columns (now keys) (now times) (now values)) × (used ≤ (← ⟦Version::ROWS⟧)) × (length (now «out_keys») ≡ length (now «out_values»)) ⌝ }
-    ensures { λ r. ⌜ ListedIn (listAt (versionsOf used (columns (now (keys .entry)) (now (times .entry)) (now (values .entry)))) t) (now («out_keys» .entry)) (now («out_values» .entry)) (ofListed r) (now («out_keys» .exit)) (now («out_values» .exit)) ⌝ }
+    requires { do ⌜ (used ≤ length (now keys)) × (used ≤ length (now times)) × (used ≤ length (now values)) × (used ≤ (← ⟦Version::ROWS⟧)) × (length (now «out_keys») ≡ length (now «out_values»)) ⌝ }
+    ensures { λ r. ⌜ ((marks : List ℕ) → ListedIn (listAt (versionsOf used (columns (now (keys .entry)) (now (times .entry)) (now (values .entry)) marks)) t) (now («out_keys» .entry)) (now («out_values» .entry)) (ofListed r) (now («out_keys» .exit)) (now («out_values» .exit))) ⌝ }
 {
     if used < Version::FEW {
         let mut listed = [0u32; Version::FEW];
@@ -86,16 +86,17 @@ pub fn list(
     keys: &[u32],
     times: &[u64],
     values: &[u32],
+    marks: &[u8],
     t: u64,
     out_keys: &mut [u32],
     out_values: &mut [u32],
 ) -> Listed
-    ensures { λ r. ⌜ ListedAt t h (columns (now (keys .entry)) (now (times .entry)) (now (values .entry))) (now («out_keys» .entry)) (now («out_values» .entry)) (ofListed r) (now («out_keys» .exit)) (now («out_values» .exit)) ⌝ }
+    ensures { λ r. ⌜ ListedAt t h (columns (now (keys .entry)) (now (times .entry)) (now (values .entry)) (now (marks .entry))) (now («out_keys» .entry)) (now («out_values» .entry)) (ofListed r) (now («out_keys» .exit)) (now («out_values» .exit)) ⌝ }
 {
     if out_keys.len() != out_values.len() {
         return Listed::Refused(Refusal::BadShape);
     }
-    if !map_store::shaped(h, keys.len(), times.len(), values.len()) {
+    if !map_store::shaped(h, keys.len(), times.len(), values.len(), marks.len()) {
         return Listed::Refused(Refusal::BadShape);
     }
     if t < h.low {

@@ -14,7 +14,7 @@ use Rattle.slot.specs.Slots.{slotOf}
 use Rattle.versions.specs.Versions.{Columns, versionsOf, valueAt, listAt}
 use Rattle.versions.specs.Columns.{thinned}
 use Rattle.map_store.specs.declared.MapHead.{MapHead}
-use Rattle.map_store.specs.Meaning.{MapStore, mapAnswer, gives, readRefusal, readIn, lookupRefusal, listAnswer, checkpointRefusal}
+use Rattle.map_store.specs.Meaning.{MapStore, mapAnswer, gives, readRefusal, readIn, lookupRefusal, listAnswer, checkpointRefusal, newestValue}
 use Rattle.map_store.specs.Shape.{lengths, isShaped, roomOf, meaning}
 use Rattle.map_store.specs.Heads.{headAfter, rowsIn, stamped, keptHead}
 
@@ -33,12 +33,12 @@ pub record Decided (c : Call) (room : ℕ) (m : MapStore) (a : Reply) : Type 0 w
 -- begin, update, abort: the answer, and the head as an accepted call makes it, or as it was
 pub record Answered (c : Call) (h : MapHead) (cs : Columns) (a : Reply) (head : MapHead) : Type 0 where
   pub reply : a ≡ told (number c h cs) (gives c (meaning h cs))
-  pub headed : head ≡ after (number c h cs) (headAfter c h (versionsOf (h .used) cs)) h
+  pub headed : head ≡ after (number c h cs) (headAfter c h) h
 
 -- commit: the same, and a version for each key behind the used rows of the columns, or the columns as they were
 pub record Committed (n t : ℕ) (h : MapHead) (cs : Columns) (a : Reply) (head : MapHead) (cs' : Columns) : Type 0 where
   pub answered : Answered (Commit n t) h cs a head
-  pub cells : cs' ≡ after (number (Commit n t) h cs) (stamped (h .used) t (rowsIn (h .slots) (slotOf (h .slots) n)) cs) cs
+  pub cells : cs' ≡ after (number (Commit n t) h cs) (stamped (newestValue (meaning h cs)) (h .used) t (rowsIn (h .slots) (slotOf (h .slots) n)) cs) cs
 
 -- read and lookup: the value, or absent
 abbrev pub readReply : ℕ → ℕ → MapHead → Columns → Reply

@@ -3,18 +3,18 @@ use mathlib.Core.List.{List, [], _∷_}
 use Prim.Native.Nat.{ℕ, _+_}
 use lib.ListN.{length}
 use Rattle.rules.specs.declared.Effect.{Effect}
-use Rattle.rules.specs.Effects.{orZero, applied}
+use Rattle.rules.specs.declared.Value.{Value}
 use Rattle.rules.specs.Calls.{Call, Begin, Update, Abort, Commit}
 use Rattle.column.specs.declared.Found.{Found}
 use Rattle.column.specs.declared.Found.the-variants.{At, Nothing}
 use Rattle.slot.specs.declared.Slots.{Slots}
-use Rattle.slot.specs.Slots.{slotAt, slotOf, openedIn, notedIn, closedIn}
-use Rattle.slot.specs.Places.{Note, slotRows, placeIn}
+use Rattle.slot.specs.Slots.{slotOf, openedIn, notedIn, closedIn}
+use Rattle.slot.specs.Places.{Note, placeIn}
 use Rattle.versions.specs.declared.Version.{Version}
 use Rattle.versions.specs.Versions.{Columns, keptFrom}
 use Rattle.versions.specs.Columns.{withVersion}
 use Rattle.map_store.specs.declared.MapHead.{MapHead}
-use Rattle.map_store.specs.Meaning.{current, rowsAt, versionOf}
+use Rattle.map_store.specs.Meaning.{rowsAt, versionOf}
 
 -- other slots in a head
 abbrev pub withSlots : MapHead → Slots → MapHead
@@ -25,13 +25,10 @@ abbrev pub begunHead : ℕ → MapHead → MapHead
 begunHead t h =
     record { low = h .low; last = h .last; next = h .next + 1; used = h .used; slots = openedIn (h .slots) (h .next) t }
 
--- update: the running value is noted in the slot that was found
-abbrev pub updatedHead : ℕ → Effect → Found → MapHead → List Version → MapHead
-updatedHead k e (At i) h vs =
-    withSlots h
-    (notedIn (h .slots) i k
-    (orZero (applied e (current k (slotAt (h .slots) i .snapshot) (slotRows (slotAt (h .slots) i)) vs))))
-updatedHead k e Nothing h vs = h
+-- update: it is noted in the slot that was found
+abbrev pub updatedHead : ℕ → Effect → Found → MapHead → MapHead
+updatedHead k e (At i) h = withSlots h (notedIn (h .slots) i k e)
+updatedHead k e Nothing h = h
 
 -- abort: the slot that was found is freed
 abbrev pub abortedHead : Found → MapHead → MapHead
@@ -49,16 +46,16 @@ committedHead t (At i) h =
 committedHead t Nothing h = h
 
 -- what an accepted call makes of the head
-abbrev pub headAfter : Call → MapHead → List Version → MapHead
-headAfter (Begin t) h vs = begunHead t h
-headAfter (Update n k e) h vs = updatedHead k e (slotOf (h .slots) n) h vs
-headAfter (Abort n) h vs = abortedHead (slotOf (h .slots) n) h
-headAfter (Commit n t) h vs = committedHead t (slotOf (h .slots) n) h
+abbrev pub headAfter : Call → MapHead → MapHead
+headAfter (Begin t) h = begunHead t h
+headAfter (Update n k e) h = updatedHead k e (slotOf (h .slots) n) h
+headAfter (Abort n) h = abortedHead (slotOf (h .slots) n) h
+headAfter (Commit n t) h = committedHead t (slotOf (h .slots) n) h
 
 -- columns whose first n rows are used, with a version at t for each of some rows behind these, the oldest first
-abbrev pub stamped : ℕ → ℕ → List Note → Columns → Columns
-stamped n t [] cs = cs
-stamped n t (r ∷ older) cs = withVersion (n + length older) (versionOf t r) (stamped n t older cs)
+abbrev pub stamped : (ℕ → Value) → ℕ → ℕ → List Note → Columns → Columns
+stamped newest n t [] cs = cs
+stamped newest n t (r ∷ older) cs = withVersion (n + length older) (versionOf newest t r) (stamped newest n t older cs)
 
 -- checkpoint: low is T, and the versions kept are counted
 abbrev pub keptHead : ℕ → MapHead → List Version → MapHead

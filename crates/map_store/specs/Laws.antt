@@ -22,7 +22,7 @@ use Rattle.slot.specs.Formed.{Formed, Rowed}
 use Rattle.slot.specs.Laws.{first-slot}
 use Rattle.slot.specs.Places.{free, placeOf, placeIn, placesOf, takenBy}
 use Rattle.slot.specs.PlaceLaws.{place-slot}
-use Rattle.versions.specs.Versions.{Columns, versionsOf}
+use Rattle.versions.specs.Versions.{Columns}
 use Rattle.map_store.specs.declared.MapHead.{MapHead}
 use Rattle.map_store.specs.declared.Outcome.{Outcome}
 use Rattle.map_store.specs.Meaning.{MapStore, mapAnswer, gives}
@@ -74,13 +74,13 @@ module _ {c : Call} {h : MapHead} {cs : Columns} where
       let q = number-bad h cs (mapAnswer (roomOf (length (cs .keys))) c) e in
       record {
         reply = say 1 (number c h cs) (gives c (meaning h cs)) q;
-        headed = after-refused BadShape (number c h cs) (headAfter c h (versionsOf (h .used) cs)) h q;
+        headed = after-refused BadShape (number c h cs) (headAfter c h) h q;
       }
 
   module _ (shaped : isShaped h (lengths cs) ≡ true) where
     -- what was decided and done is what the call answers
     pub answered : {a : Reply} → Decided c (roomOf (length (cs .keys))) (meaning h cs) a → {accepted : Bool} → accepted ≡ eqb (a .number) 0
-        → {head : MapHead} → head ≡ cond accepted (headAfter c h (versionsOf (h .used) cs)) h → Answered c h cs a head
+        → {head : MapHead} → head ≡ cond accepted (headAfter c h) h → Answered c h cs a head
     answered {a} d {accepted} y {head} p =
         let q = number-good h cs (mapAnswer (roomOf (length (cs .keys))) c) shaped in
         record {
@@ -95,7 +95,7 @@ module _ {c : Call} {h : MapHead} {cs : Columns} where
 
     -- one that is accepted leaves the head that it is to leave
     pub carried-out : (o : Outcome) (head : MapHead) → (o .head ≡ head) × (o .answer ≡ done.Accepted)
-        → Decided c (roomOf (length (cs .keys))) (meaning h cs) (accepted Absent) → head ≡ headAfter c h (versionsOf (h .used) cs)
+        → Decided c (roomOf (length (cs .keys))) (meaning h cs) (accepted Absent) → head ≡ headAfter c h
         → Answered c h cs (ofDone (o .answer)) (o .head)
     carried-out o head r d e = rw (r .0, r .1) (answered d {accepted = true} refl e)
 

@@ -9,9 +9,9 @@ use Rattle.rules.specs.Limits.{mostRunning, mostKeys, numbersEnd}
 use Rattle.rules.specs.declared.Value.{Value}
 use Rattle.rules.specs.declared.Value.the-variants.{Absent, Present}
 use Rattle.rules.specs.declared.Effect.{Effect}
-use Rattle.rules.specs.Effects.{orZero, applied, orElse}
+use Rattle.rules.specs.Effects.{orZero, applied, isAdd, markOf}
 use Rattle.rules.specs.Calls.{Call, Begin, Update, Abort, Commit, timeTests, lookupTests, checkpointTests, withRoom}
-use Rattle.slot.specs.Places.{Note, Place, free, taken, hasKey, runningValue, note, placeOf, openIn, amend, occupied, holds}
+use Rattle.slot.specs.Places.{Note, Place, free, taken, hasKey, makes, note, placeOf, openIn, amend, occupied, holds}
 use Rattle.versions.specs.declared.Version.{Version}
 use Rattle.versions.specs.Versions.{valueAt, later, keptFrom, listAt}
 
@@ -33,14 +33,14 @@ abbrev pub firsts : List Note → List Note
 firsts [] = []
 firsts (r ∷ rows) = cond (hasKey (r .key) rows) (firsts rows) (r ∷ firsts rows)
 
--- rule 3.6: a version of a written key is later than the snapshot
+-- rule 3.6: of the keys of some rows, one has a version later than s that met their transaction
 abbrev pub clash : ℕ → List Note → List Version → Bool
 clash s [] vs = false
-clash s (r ∷ rows) vs = later s (r .key) vs || clash s rows vs
+clash s (r ∷ rows) vs = later s (r .key) (isAdd (r .effect)) vs || clash s rows vs
 
--- rule 3.5: the running value in a key's row, or the value at the snapshot where it has none
+-- rule 3.5: what a key's row makes of the value at the snapshot
 abbrev pub current : ℕ → ℕ → List Note → List Version → Value
-current k s rows vs = orElse (runningValue k rows) (valueAt k s vs)
+current k s rows vs = makes k rows (valueAt k s vs)
 
 -- what a transaction reads in a key
 abbrev pub readAt : ℕ → Place → List Version → Value
@@ -81,7 +81,7 @@ updateRefusal k (taken n s rows) = cond (eqb k 0) 3 (cond (hasKey k rows || ltb 
 
 abbrev pub commitRefusal : ℕ → MapStore → Place → ℕ
 commitRefusal t m free = 2
-commitRefusal t m (taken n s rows) = cond (leb t (m .last)) 10 (cond (clash s rows (m .versions)) 11 0)
+commitRefusal t m (taken n s rows) = cond (leb t (m .last)) 10 (cond (clash s (firsts rows) (m .versions)) 11 0)
 
 -- section 6 but for shape and room, in the order of its tests
 abbrev pub mapRefusal : Call → MapStore → ℕ
@@ -114,19 +114,23 @@ mapAnswer room (Commit n t) m =
 abbrev pub listAnswer : ℕ → ℕ → MapStore → ℕ
 listAnswer room t m = withRoom (listRefusal t m) (length (listAt (m .versions) t)) room
 
--- an update noted in a transaction's place, with the running value
-abbrev pub updatedPlace : ℕ → Effect → Place → List Version → Place
-updatedPlace k e free vs = free
-updatedPlace k e (taken n s rows) vs = taken n s (note k (orZero (applied e (current k s rows vs))) rows)
+-- an update noted in a transaction's place
+abbrev pub updatedPlace : ℕ → Effect → Place → Place
+updatedPlace k e free = free
+updatedPlace k e (taken n s rows) = taken n s (note k e rows)
 
--- rule 3.8: the version of a row, at the commit time, with the running value
-abbrev pub versionOf : ℕ → Note → Version
-versionOf t r = record { key = r .key; time = t; value = r .value }
+-- the newest committed value of a key: that at last
+abbrev pub newestValue : MapStore → ℕ → Value
+newestValue m k = valueAt k (m .last) (m .versions)
+
+-- rule 3.8: the version of a row at the commit time t: its effect on the newest committed value, marked if it only adds
+abbrev pub versionOf : (ℕ → Value) → ℕ → Note → Version
+versionOf newest t r = record { key = r .key; time = t; value = orZero (applied (r .effect) (newest (r .key))); mark = markOf (r .effect) }
 
 -- a version for each row
-abbrev pub stamp : ℕ → List Note → List Version → List Version
-stamp t [] vs = vs
-stamp t (r ∷ rows) vs = versionOf t r ∷ stamp t rows vs
+abbrev pub stamp : (ℕ → Value) → ℕ → List Note → List Version → List Version
+stamp newest t [] vs = vs
+stamp newest t (r ∷ rows) vs = versionOf newest t r ∷ stamp newest t rows vs
 
 -- what an accepted call makes of the store
 abbrev pub mapAfter : Call → MapStore → MapStore
@@ -137,7 +141,7 @@ mapAfter (Update n k e) m =
       low = m .low;
       last = m .last;
       next = m .next;
-      places = amend n (updatedPlace k e (placeOf n (m .places)) (m .versions)) (m .places);
+      places = amend n (updatedPlace k e (placeOf n (m .places))) (m .places);
       versions = m .versions;
     }
 mapAfter (Abort n) m = record { low = m .low; last = m .last; next = m .next; places = amend n free (m .places); versions = m .versions }
@@ -147,7 +151,7 @@ mapAfter (Commit n t) m =
       last = t;
       next = m .next;
       places = amend n free (m .places);
-      versions = stamp t (rowsAt (placeOf n (m .places))) (m .versions);
+      versions = stamp (newestValue m) t (rowsAt (placeOf n (m .places))) (m .versions);
     }
 
 -- rule 3.10: low becomes T, and the versions that stay are kept

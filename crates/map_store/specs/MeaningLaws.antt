@@ -9,7 +9,7 @@ use lib.Dec.{eqb, ltb}
 use lib.ListN.{length, drop, set, replicate, length-set, length-append, length-drop, length-replicate}
 use Rattle.rules.specs.Limits.{mostVersions, mostRunning, mostKeys}
 use Rattle.rules.specs.declared.Effect.{Effect}
-use Rattle.rules.specs.Effects.{orZero, applied}
+use Rattle.rules.specs.declared.Value.{Value}
 use Rattle.rules.specs.Passed.{passed}
 use Rattle.rules.specs.Calls.{Begin, Update, Abort, Commit}
 use Rattle.column.specs.declared.Found.the-variants.{At, Nothing}
@@ -26,7 +26,7 @@ use Rattle.versions.specs.Versions.{Columns, versionsOf, keptFrom}
 use Rattle.versions.specs.Columns.{Spans, Long, column, thinnedColumn, thinned}
 use Rattle.versions.specs.Laws.{long-self, lent-fewer, lent-long, each-long, none-lent, appended-versions, kept-versions, length-column, length-kept, length-versions}
 use Rattle.map_store.specs.declared.MapHead.{MapHead}
-use Rattle.map_store.specs.Meaning.{MapStore, emptyMap, current, mapRefusal, mapAnswer, mapAfter, versionOf, stamp, checkpointed}
+use Rattle.map_store.specs.Meaning.{MapStore, emptyMap, mapRefusal, mapAnswer, mapAfter, newestValue, versionOf, stamp, checkpointed}
 use Rattle.map_store.specs.Shape.{emptyHead, lengths, Shaped, roomOf, meaning}
 use Rattle.map_store.specs.Heads.{begunHead, updatedHead, abortedHead, rowsIn, committedHead, stamped, keptHead}
 use Rattle.map_store.specs.ShapeLaws.{shaped-long, lent}
@@ -38,22 +38,22 @@ pub empty-meaning : (cs : Columns) → meaning emptyHead cs ≡ emptyMap
 empty-meaning cs = ap (λ (ps : List Place). record { low = 0; last = 0; next = 1; places = ps; versions = [] }) empty-places
 
 -- what is written is written over
-pub written-long : (n t : ℕ) (rows : List Note) (cs : Columns) → Long cs (stamped n t rows cs)
-written-long n t [] cs = long-self cs
-written-long n t (r ∷ older) cs =
-    each-long (none-lent cs) (λ field cells. set cells (n + length older) (field (versionOf t r)))
-    (λ field cells _. length-set cells (n + length older) (field (versionOf t r))) (written-long n t older cs)
+pub written-long : (newest : ℕ → Value) (n t : ℕ) (rows : List Note) (cs : Columns) → Long cs (stamped newest n t rows cs)
+written-long newest n t [] cs = long-self cs
+written-long newest n t (r ∷ older) cs =
+    each-long (none-lent cs) (λ field cells. set cells (n + length older) (field (versionOf newest t r)))
+    (λ field cells _. length-set cells (n + length older) (field (versionOf newest t r))) (written-long newest n t older cs)
 
 -- rows written behind n used ones are a version each
-pub stamped-versions : (t n : ℕ) (rows : List Note) (cs : Columns) → Spans (n + length rows) cs
-    → versionsOf (n + length rows) (stamped n t rows cs) ≡ stamp t rows (versionsOf n cs)
-stamped-versions t n [] cs l = rw add-zero
-stamped-versions t n (r ∷ older) cs l =
+pub stamped-versions : (newest : ℕ → Value) (t n : ℕ) (rows : List Note) (cs : Columns) → Spans (n + length rows) cs
+    → versionsOf (n + length rows) (stamped newest n t rows cs) ≡ stamp newest t rows (versionsOf n cs)
+stamped-versions newest t n [] cs l = rw add-zero
+stamped-versions newest t n (r ∷ older) cs l =
     let m = n + length older in
     let z : n + suc (length older) ≡ m + 1 = omega arith in
     rw z
-    (appended-versions m (versionOf t r) (stamped n t older cs) (lent-long (lent-fewer l (omega arith)) (written-long n t older cs))
-    ∙ ap (λ (vs : List Version). versionOf t r ∷ vs) (stamped-versions t n older cs (lent-fewer l (omega arith))))
+    (appended-versions m (versionOf newest t r) (stamped newest n t older cs) (lent-long (lent-fewer l (omega arith)) (written-long newest n t older cs))
+    ∙ ap (λ (vs : List Version). versionOf newest t r ∷ vs) (stamped-versions newest t n older cs (lent-fewer l (omega arith))))
 
 module _ (h : MapHead) (cs : Columns) (w : Shaped h (lengths cs)) where
   -- other places in the meaning
@@ -72,13 +72,14 @@ module _ (h : MapHead) (cs : Columns) (w : Shaped h (lengths cs)) where
         rows = w .rows;
         times = w .times;
         values = w .values;
+        marks = w .marks;
         numbered = λ e. omega arith;
         formed = formed-opened (h .slots) (h .next) t (w .formed);
       }
 
   -- the same head with other slots
   slots-shaped : (s : Slots) → Formed s → Shaped (record { low = h .low; last = h .last; next = h .next; used = h .used; slots = s }) (lengths cs)
-  slots-shaped s f = record { limit = w .limit; rows = w .rows; times = w .times; values = w .values; numbered = w .numbered; formed = f }
+  slots-shaped s f = record { limit = w .limit; rows = w .rows; times = w .times; values = w .values; marks = w .marks; numbered = w .numbered; formed = f }
 
   -- a slot that is found is one of the eight
   module _ (n : ℕ) where
@@ -107,7 +108,7 @@ module _ (h : MapHead) (cs : Columns) (w : Shaped h (lengths cs)) where
       has-row false e = absurd (omega arith)
 
       pub update-meaning : mapRefusal (Update n k x) (meaning h cs) ≡ 0
-          → meaning (updatedHead k x (slotOf (h .slots) n) h (versionsOf (h .used) cs)) cs ≡ mapAfter (Update n k x) (meaning h cs)
+          → meaning (updatedHead k x (slotOf (h .slots) n) h) cs ≡ mapAfter (Update n k x) (meaning h cs)
       update-meaning e =
           cases (slotOf (h .slots) n)
           (λ i g.
@@ -118,14 +119,12 @@ module _ (h : MapHead) (cs : Columns) (w : Shaped h (lengths cs)) where
           let r : test ≡ true = has-row test (passed (eqb k 0) 3 (cond test 0 8) (omega arith) q .1) in
           rw (g, p)
           (ap placed
-          (noted-places (h .slots) n g (w .formed) k
-          (orZero (applied x (current k (s .snapshot) (slotRows s) (versionsOf (h .used) cs))))
-          (rw (length-rows (s .keys) (s .values) (s .count)) at r))))
+          (noted-places (h .slots) n g (w .formed) k x (rw (length-rows (s .keys) (s .values) (s .marks) (s .count)) at r))))
           (λ g.
           let z = decided-number (update-unknown {room = 0} {m = meaning h cs} (place-none (h .slots) n refl g) {k = k} {x = x}) in
           absurd (omega arith))
 
-      pub update-shaped : Shaped (updatedHead k x (slotOf (h .slots) n) h (versionsOf (h .used) cs)) (lengths cs)
+      pub update-shaped : Shaped (updatedHead k x (slotOf (h .slots) n) h) (lengths cs)
       update-shaped =
           cases (slotOf (h .slots) n)
           (λ i g. rw g (slots-shaped _ (formed-noted (h .slots) i k _ (w .formed) (below i g))))
@@ -142,7 +141,7 @@ module _ (h : MapHead) (cs : Columns) (w : Shaped h (lengths cs)) where
           let z = decided-number (commit-unknown {room = roomOf (length (cs .keys))} {m = meaning h cs} (place-none (h .slots) n refl g) {t = t}) in
           omega arith
 
-      pub commit-meaning : meaning (committedHead t (slotOf (h .slots) n) h) (stamped (h .used) t (rowsIn (h .slots) (slotOf (h .slots) n)) cs)
+      pub commit-meaning : meaning (committedHead t (slotOf (h .slots) n) h) (stamped (newestValue (meaning h cs)) (h .used) t (rowsIn (h .slots) (slotOf (h .slots) n)) cs)
           ≡ mapAfter (Commit n t) (meaning h cs)
       commit-meaning =
           cases (slotOf (h .slots) n)
@@ -152,11 +151,11 @@ module _ (h : MapHead) (cs : Columns) (w : Shaped h (lengths cs)) where
           rw (g, place-found (h .slots) n refl g)
           (ap₂ (λ (ps : List Place) (vers : List Version). record { low = h .low; last = t; next = h .next; places = ps; versions = vers })
           (closed-places (h .slots) n g)
-          (stamped-versions t (h .used) (rowsIn (h .slots) (At i)) cs
-          (record { keys = omega arith; times = omega (arith, w .times); values = omega (arith, w .values) }))))
+          (stamped-versions (newestValue (meaning h cs)) t (h .used) (rowsIn (h .slots) (At i)) cs
+          (record { keys = omega arith; times = omega (arith, w .times); values = omega (arith, w .values); marks = omega (arith, w .marks) }))))
           (λ g. absurd (unknown g))
 
-      pub commit-shaped : Shaped (committedHead t (slotOf (h .slots) n) h) (lengths (stamped (h .used) t (rowsIn (h .slots) (slotOf (h .slots) n)) cs))
+      pub commit-shaped : Shaped (committedHead t (slotOf (h .slots) n) h) (lengths (stamped (newestValue (meaning h cs)) (h .used) t (rowsIn (h .slots) (slotOf (h .slots) n)) cs))
       commit-shaped =
           cases (slotOf (h .slots) n)
           (λ i g.
@@ -164,12 +163,13 @@ module _ (h : MapHead) (cs : Columns) (w : Shaped h (lengths cs)) where
           let r = min-le-right mostVersions (length (cs .keys)) in
           let m = min-le-left mostVersions (length (cs .keys)) in
           rw g
-          (shaped-long (committedHead t (At i) h) (written-long (h .used) t (rowsIn (h .slots) (At i)) cs)
+          (shaped-long (committedHead t (At i) h) (written-long (newestValue (meaning h cs)) (h .used) t (rowsIn (h .slots) (At i)) cs)
           (record {
             limit = omega arith;
             rows = omega arith;
             times = w .times;
             values = w .values;
+            marks = w .marks;
             numbered = w .numbered;
             formed = formed-closed (h .slots) i (w .formed) (below i g);
           })))
@@ -207,6 +207,7 @@ module _ (h : MapHead) (cs : Columns) (w : Shaped h (lengths cs)) where
           rows = omega (arith, w .rows);
           times = w .times;
           values = w .values;
+          marks = w .marks;
           numbered = w .numbered;
           formed = w .formed;
         })

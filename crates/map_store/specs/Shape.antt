@@ -21,16 +21,19 @@ pub record Lengths : Type 0 where
   pub keys : ℕ
   pub times : ℕ
   pub values : ℕ
+  pub marks : ℕ
 
 -- the lengths of the lent columns
 abbrev pub lengths : Columns → Lengths
-lengths cs = record { keys = length (cs .keys); times = length (cs .times); values = length (cs .values) }
+lengths cs =
+    record { keys = length (cs .keys); times = length (cs .times); values = length (cs .values); marks = length (cs .marks) }
 
 -- section 6, number 1: used versions within limit and room, columns of one length, next not 0, no occupied slot with more than 32 keys
 abbrev pub isShaped : MapHead → Lengths → Bool
 isShaped h l =
     leb (h .used) mostVersions
-    && (leb (h .used) (l .keys) && (eqb (l .keys) (l .times) && (eqb (l .keys) (l .values) && (not (eqb (h .next) 0) && slotsShaped (h .slots)))))
+    && (leb (h .used) (l .keys)
+    && (eqb (l .keys) (l .times) && (eqb (l .keys) (l .values) && (eqb (l .keys) (l .marks) && (not (eqb (h .next) 0) && slotsShaped (h .slots))))))
 
 -- how many versions fit into columns of such a length
 abbrev pub roomOf : ℕ → ℕ
@@ -47,5 +50,6 @@ pub record Shaped (h : MapHead) (l : Lengths) : Type 0 where
   pub rows : h .used ≤ l .keys
   pub times : l .keys ≡ l .times
   pub values : l .keys ≡ l .values
+  pub marks : l .keys ≡ l .marks
   pub numbered : h .next ≡ 0 → ⊥
   pub formed : Formed (h .slots)

@@ -19,6 +19,7 @@ shape-passes h l w =
       le-leb (h .used) (l .keys) (w .rows),
       eq-eqb (l .keys) (l .times) (w .times),
       eq-eqb (l .keys) (l .values) (w .values),
+      eq-eqb (l .keys) (l .marks) (w .marks),
       ne-eqb (h .next) 0 (w .numbered),
     )
     (formed-shaped (h .slots) (w .formed))
@@ -31,16 +32,22 @@ shaped-long h l w =
       rows = rw (l .keys) (w .rows);
       times = rw (l .keys, l .times) (w .times);
       values = rw (l .keys, l .values) (w .values);
+      marks = rw (l .keys, l .marks) (w .marks);
       numbered = w .numbered;
       formed = w .formed;
     }
 
 -- an empty head has a good shape over columns of one length
-pub empty-shaped : (n : ℕ) → Shaped emptyHead (record { keys = n; times = n; values = n })
+pub empty-shaped : (n : ℕ) → Shaped emptyHead (record { keys = n; times = n; values = n; marks = n })
 empty-shaped n =
-    record { limit = omega arith; rows = omega arith; times = refl; values = refl; numbered = λ e. omega arith; formed = formed-empty }
+    record { limit = omega arith; rows = omega arith; times = refl; values = refl; marks = refl; numbered = λ e. omega arith; formed = formed-empty }
 
 -- lent rows of a good shape
 pub lent : (h : MapHead) (cs : Columns) → Shaped h (lengths cs) → Spans (h .used) cs
 lent h cs w =
-    record { keys = w .rows; times = omega (arith, w .rows, w .times); values = omega (arith, w .rows, w .values) }
+    record {
+      keys = w .rows;
+      times = omega (arith, w .rows, w .times);
+      values = omega (arith, w .rows, w .values);
+      marks = omega (arith, w .rows, w .marks);
+    }

@@ -137,7 +137,7 @@ module _ {room : ℕ} {m : MapStore} where
         pub commit-later : t ≤ m .last → Decided (Commit n t) room m (told 10 (gives (Commit n t) m))
         commit-later l = says (Commit n t) 10 (rw (p, le-leb t (m .last) l))
 
-        module _ (l : m .last < t) {b : Bool} (d : b ≡ clash s rows (m .versions)) where
+        module _ (l : m .last < t) {b : Bool} (d : b ≡ clash s (firsts rows) (m .versions)) where
           pub commit-conflict : b ≡ true → Decided (Commit n t) room m (told 11 (gives (Commit n t) m))
           commit-conflict f = says (Commit n t) 11 (rw (p, lt-leb t (m .last) l, sym d ∙ f))
 

@@ -9,10 +9,17 @@ use answer::Refusal;
 use column::Found;
 
 // Ends a running transaction; its updates have no effect.
-pub fn abort(h: MapHead, keys: &[u32], times: &[u64], values: &[u32], n: u32) -> Outcome
-    ensures { λ r. ⌜ Answered (Abort n) h (columns (now (keys .entry)) (now (times .entry)) (now (values .entry))) (ofDone (r .answer)) (r .head) ⌝ }
+pub fn abort(
+    h: MapHead,
+    keys: &[u32],
+    times: &[u64],
+    values: &[u32],
+    marks: &[u8],
+    n: u32,
+) -> Outcome
+    ensures { λ r. ⌜ Answered (Abort n) h (columns (now (keys .entry)) (now (times .entry)) (now (values .entry)) (now (marks .entry))) (ofDone (r .answer)) (r .head) ⌝ }
 {
-    if !crate::shaped(h, keys.len(), times.len(), values.len()) {
+    if !crate::shaped(h, keys.len(), times.len(), values.len(), marks.len()) {
         return crate::refused(h, Refusal::BadShape);
     }
     let slots = h.slots;

@@ -17,9 +17,9 @@ use answer::Refusal;
 use slot::Slots;
 
 // What a store of good shape answers.
-fn decide(h: MapHead, keys: &[u32], times: &[u64], values: &[u32], t: u64) -> Begun
-    requires { ⌜ Shaped h (lengths (columns (now keys) (now times) (now values))) ⌝ }
-    ensures { λ r. ⌜ Decided (Begin t) (roomOf (length (now (keys .entry)))) (meaning h (columns (now (keys .entry)) (now (times .entry)) (now (values .entry)))) (ofBegun r) ⌝ }
+fn decide(h: MapHead, keys: &[u32], times: &[u64], values: &[u32], marks: &[u8], t: u64) -> Begun
+    requires { ⌜ Shaped h (lengths (columns (now keys) (now times) (now values) (now marks))) ⌝ }
+    ensures { λ r. ⌜ Decided (Begin t) (roomOf (length (now (keys .entry)))) (meaning h (columns (now (keys .entry)) (now (times .entry)) (now (values .entry)) (now (marks .entry)))) (ofBegun r) ⌝ }
 {
     if t < h.low {
         return Begun::Refused(Refusal::TooOld);
@@ -56,16 +56,23 @@ fn open(h: MapHead, accepted: bool, t: u64) -> MapHead
 }
 
 // Begins a transaction that reads as of t, and answers its number.
-pub fn begin(h: MapHead, keys: &[u32], times: &[u64], values: &[u32], t: u64) -> Started
-    ensures { λ r. ⌜ Answered (Begin t) h (columns (now (keys .entry)) (now (times .entry)) (now (values .entry))) (ofBegun (r .answer)) (r .head) ⌝ }
+pub fn begin(
+    h: MapHead,
+    keys: &[u32],
+    times: &[u64],
+    values: &[u32],
+    marks: &[u8],
+    t: u64,
+) -> Started
+    ensures { λ r. ⌜ Answered (Begin t) h (columns (now (keys .entry)) (now (times .entry)) (now (values .entry)) (now (marks .entry))) (ofBegun (r .answer)) (r .head) ⌝ }
 {
-    if !crate::shaped(h, keys.len(), times.len(), values.len()) {
+    if !crate::shaped(h, keys.len(), times.len(), values.len(), marks.len()) {
         return Started {
             head: h,
             answer: Begun::Refused(Refusal::BadShape),
         };
     }
-    let answer = decide(h, keys, times, values, t);
+    let answer = decide(h, keys, times, values, marks, t);
     let head = open(h, answer.accepted(), t);
     Started { head, answer }
 }

@@ -2,9 +2,11 @@
 // shape test; it answers for all inputs and asks nothing of its caller.
 ghost use mathlib.Core.Path.{_≡_};
 ghost use mathlib.Core.Bool.{true};
+ghost use mathlib.Core.List.{List};
+ghost use Prim.Native.Nat.{ℕ, _≤_};
+ghost use lib.ListN.{length};
 ghost use Rattle.slot.specs.Formed.{Rowed};
 ghost use Rattle.slot.specs.Places.{slotRows};
-ghost use Rattle.versions.specs.Columns.{Spans};
 ghost use Rattle.versions.specs.Versions.{columns, versionsOf};
 ghost use Rattle.map_store.specs.Meaning.{current};
 ghost use Rattle.map_store.specs.Heads.{withSlots};
@@ -64,11 +66,11 @@ pub struct Outcome {
     pub answer: Done,
 }
 
-// Section 6, number 1, the same for every call: used versions within limit and lent room, three columns of one length, next not 0, no occupied
+// Section 6, number 1, the same for every call: used versions within limit and lent room, four columns of one length, next not 0, no occupied
 // slot with more than 32 keys.
-pub fn shaped(h: MapHead, keys: usize, times: usize, values: usize) -> bool
-    ensures { λ r. ⌜ r ≡ isShaped h (record { keys = keys; times = times; values = values }) ⌝ }
-    ensures { λ r. ⌜ (r ≡ true → Shaped h (record { keys = keys; times = times; values = values })) ⌝ }
+pub fn shaped(h: MapHead, keys: usize, times: usize, values: usize, marks: usize) -> bool
+    ensures { λ r. ⌜ r ≡ isShaped h (record { keys = keys; times = times; values = values; marks = marks }) ⌝ }
+    ensures { λ r. ⌜ (r ≡ true → Shaped h (record { keys = keys; times = times; values = values; marks = marks })) ⌝ }
 {
     let used = h.used;
     if used > Version::ROWS {
@@ -81,6 +83,9 @@ pub fn shaped(h: MapHead, keys: usize, times: usize, values: usize) -> bool
         return false;
     }
     if keys != values {
+        return false;
+    }
+    if keys != marks {
         return false;
     }
     if h.next == 0 {
@@ -116,14 +121,16 @@ fn accepted(h: MapHead, slots: Slots) -> Outcome
     }
 }
 
-// Rule 3.5: what the transaction of a slot reads in k: the running value in its row, or the value at the snapshot where it has none.
+// Rule 3.5: what the transaction of a slot reads in k: what its row makes of the value at the snapshot, or that value where it has none.
 fn current_value(s: Slot, keys: &[u32], times: &[u64], values: &[u32], used: usize, k: u32) -> Value
-    requires { ⌜ Rowed s × Spans used (columns (now keys) (now times) (now values)) ⌝ }
-    ensures { λ r. ⌜ r ≡ current k (s .snapshot) (slotRows s) (versionsOf used (columns (now (keys .entry)) (now (times .entry)) (now (values .entry)))) ⌝ }
+    requires { ⌜ Rowed s × (used ≤ length (now keys)) × (used ≤ length (now times)) × (used ≤ length (now values)) ⌝ }
+    ensures { λ r. ⌜ ((marks : List ℕ) → r ≡ current k (s .snapshot) (slotRows s) (versionsOf used (columns (now (keys .entry)) (now (times .entry)) (now (values .entry)) marks))) ⌝ }
 {
-    let running = s.values;
     match s.find(k) {
-        Found::At(i) => Value::Present(running[i]),
+        Found::At(i) => {
+            let e = s.effect(i);
+            versions::applied_at(keys, times, values, used, k, s.snapshot, e)
+        }
         Found::Nothing => versions::value_at(keys, times, values, used, k, s.snapshot),
     }
 }

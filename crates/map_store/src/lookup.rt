@@ -10,9 +10,17 @@ use answer::Got;
 use answer::Refusal;
 
 // What a store of good shape answers.
-fn decide(h: MapHead, keys: &[u32], times: &[u64], values: &[u32], k: u32, t: u64) -> Got
-    requires { ⌜ Shaped h (lengths (columns (now keys) (now times) (now values))) ⌝ }
-    ensures { λ r. ⌜ ofGot r ≡ told (lookupRefusal k t (meaning h (columns (now (keys .entry)) (now (times .entry)) (now (values .entry))))) (valueAt k t (versionsOf (h .used) (columns (now (keys .entry)) (now (times .entry)) (now (values .entry))))) ⌝ }
+fn decide(
+    h: MapHead,
+    keys: &[u32],
+    times: &[u64],
+    values: &[u32],
+    marks: &[u8],
+    k: u32,
+    t: u64,
+) -> Got
+    requires { ⌜ Shaped h (lengths (columns (now keys) (now times) (now values) (now marks))) ⌝ }
+    ensures { λ r. ⌜ ofGot r ≡ told (lookupRefusal k t (meaning h (columns (now (keys .entry)) (now (times .entry)) (now (values .entry)) (now (marks .entry))))) (valueAt k t (versionsOf (h .used) (columns (now (keys .entry)) (now (times .entry)) (now (values .entry)) (now (marks .entry))))) ⌝ }
 {
     if k == 0 {
         return Got::Refused(Refusal::BadKey);
@@ -27,11 +35,19 @@ fn decide(h: MapHead, keys: &[u32], times: &[u64], values: &[u32], k: u32, t: u6
 }
 
 // The value of k at t, or absent.
-pub fn lookup(h: MapHead, keys: &[u32], times: &[u64], values: &[u32], k: u32, t: u64) -> Got
-    ensures { λ r. ⌜ ofGot r ≡ lookupReply k t h (columns (now (keys .entry)) (now (times .entry)) (now (values .entry))) ⌝ }
+pub fn lookup(
+    h: MapHead,
+    keys: &[u32],
+    times: &[u64],
+    values: &[u32],
+    marks: &[u8],
+    k: u32,
+    t: u64,
+) -> Got
+    ensures { λ r. ⌜ ofGot r ≡ lookupReply k t h (columns (now (keys .entry)) (now (times .entry)) (now (values .entry)) (now (marks .entry))) ⌝ }
 {
-    if !crate::shaped(h, keys.len(), times.len(), values.len()) {
+    if !crate::shaped(h, keys.len(), times.len(), values.len(), marks.len()) {
         return Got::Refused(Refusal::BadShape);
     }
-    decide(h, keys, times, values, k, t)
+    decide(h, keys, times, values, marks, k, t)
 }

@@ -11,9 +11,17 @@ use answer::Refusal;
 use column::Found;
 
 // What a store of good shape answers.
-fn decide(h: MapHead, keys: &[u32], times: &[u64], values: &[u32], n: u32, k: u32) -> Got
-    requires { ⌜ Shaped h (lengths (columns (now keys) (now times) (now values))) ⌝ }
-    ensures { λ r. ⌜ ofGot r ≡ told (readRefusal n k (meaning h (columns (now (keys .entry)) (now (times .entry)) (now (values .entry))))) (readIn n k (meaning h (columns (now (keys .entry)) (now (times .entry)) (now (values .entry))))) ⌝ }
+fn decide(
+    h: MapHead,
+    keys: &[u32],
+    times: &[u64],
+    values: &[u32],
+    marks: &[u8],
+    n: u32,
+    k: u32,
+) -> Got
+    requires { ⌜ Shaped h (lengths (columns (now keys) (now times) (now values) (now marks))) ⌝ }
+    ensures { λ r. ⌜ ofGot r ≡ told (readRefusal n k (meaning h (columns (now (keys .entry)) (now (times .entry)) (now (values .entry)) (now (marks .entry))))) (readIn n k (meaning h (columns (now (keys .entry)) (now (times .entry)) (now (values .entry)) (now (marks .entry))))) ⌝ }
 {
     let slots = h.slots;
     match slots.find(n) {
@@ -29,11 +37,19 @@ fn decide(h: MapHead, keys: &[u32], times: &[u64], values: &[u32], n: u32, k: u3
 }
 
 // What the transaction reads in k: the value at its snapshot, then its own updates.
-pub fn read(h: MapHead, keys: &[u32], times: &[u64], values: &[u32], n: u32, k: u32) -> Got
-    ensures { λ r. ⌜ ofGot r ≡ readReply n k h (columns (now (keys .entry)) (now (times .entry)) (now (values .entry))) ⌝ }
+pub fn read(
+    h: MapHead,
+    keys: &[u32],
+    times: &[u64],
+    values: &[u32],
+    marks: &[u8],
+    n: u32,
+    k: u32,
+) -> Got
+    ensures { λ r. ⌜ ofGot r ≡ readReply n k h (columns (now (keys .entry)) (now (times .entry)) (now (values .entry)) (now (marks .entry))) ⌝ }
 {
-    if !crate::shaped(h, keys.len(), times.len(), values.len()) {
+    if !crate::shaped(h, keys.len(), times.len(), values.len(), marks.len()) {
         return Got::Refused(Refusal::BadShape);
     }
-    decide(h, keys, times, values, n, k)
+    decide(h, keys, times, values, marks, n, k)
 }

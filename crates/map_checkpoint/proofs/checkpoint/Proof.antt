@@ -19,8 +19,8 @@ returns : tie.Need-returns
 returns c =
     let t1 = c .before in
     let sh = t1 .before in
-    let a = sh .before .before .before .before .args in
-    let cs = columns (now (a .keys)) (now (a .times)) (now (a .values)) in
+    let a = sh .before .before .before .before .before .args in
+    let cs = columns (now (a .keys)) (now (a .times)) (now (a .values)) (now (a .marks)) in
     rw (c .refused .ensures .0, c .refused .ensures .1)
     (checkpoint-bad-shape (a .t) (a .h) cs (sym (sh .shaped .ensures .0) ∙ not-true _ (t1 .if1 .taken)))
 
@@ -29,8 +29,8 @@ returns-2 c =
     let t2 = c .before in
     let e1 = t2 .before .before in
     let sh = e1 .before in
-    let a = sh .before .before .before .before .args in
-    let cs = columns (now (a .keys)) (now (a .times)) (now (a .values)) in
+    let a = sh .before .before .before .before .before .args in
+    let cs = columns (now (a .keys)) (now (a .times)) (now (a .values)) (now (a .marks)) in
     let m = meaning (a .h) cs in
     checkpoint-turned-down (a .t) (a .h) cs (sym (sh .shaped .ensures .0) ∙ not-false _ (e1 .if1 .left)) _
     TooOld (c .refused2 .ensures) (say 4 (checkpointRefusal (a .t) m) Absent (time-old m (a .t) _ (t2 .if2 .taken)))
@@ -41,8 +41,8 @@ returns-3 c =
     let e2 = t3 .before .before in
     let e1 = e2 .before .before in
     let sh = e1 .before in
-    let a = sh .before .before .before .before .args in
-    let cs = columns (now (a .keys)) (now (a .times)) (now (a .values)) in
+    let a = sh .before .before .before .before .before .args in
+    let cs = columns (now (a .keys)) (now (a .times)) (now (a .values)) (now (a .marks)) in
     let m = meaning (a .h) cs in
     checkpoint-turned-down (a .t) (a .h) cs (sym (sh .shaped .ensures .0) ∙ not-false _ (e1 .if1 .left)) _
     Future (c .refused3 .ensures) (say 5 (checkpointRefusal (a .t) m) Absent (time-future m (a .t) _ (e2 .if2 .left) (t3 .if3 .taken)))
@@ -55,8 +55,8 @@ returns-4 c =
     let e2 = e3 .before .before in
     let e1 = e2 .before .before in
     let sh = e1 .before in
-    let a = sh .before .before .before .before .args in
-    let cs = columns (now (a .keys)) (now (a .times)) (now (a .values)) in
+    let a = sh .before .before .before .before .before .args in
+    let cs = columns (now (a .keys)) (now (a .times)) (now (a .values)) (now (a .marks)) in
     let m = meaning (a .h) cs in
     checkpoint-turned-down (a .t) (a .h) cs (sym (sh .shaped .ensures .0) ∙ not-false _ (e1 .if1 .left)) _
     Held (c .refused4 .ensures)
@@ -65,25 +65,25 @@ returns-4 c =
 
 keep-from-requires : tie.Need-keep-from-requires
 keep-from-requires c κs =
-    let e4 = c .before .before .before in
+    let e4 = c .before .before .before .before in
     let e1 = e4 .before .before .before .before .before .before .before in
     let sh = e1 .before in
-    let a = sh .before .before .before .before .args in
-    let cs = columns (now (a .keys)) (now (a .times)) (now (a .values)) in
+    let a = sh .before .before .before .before .before .args in
+    let cs = columns (now (a .keys)) (now (a .times)) (now (a .values)) (now (a .marks)) in
     let w = sh .shaped .ensures .1 (not-false _ (e1 .if1 .left)) in
     (lent (a .h) cs w, w .limit)
 
 returns-5 : tie.Need-returns-5
 returns-5 c =
-    let kf = c .before .before .before .before .before .before in
-    let e4 = kf .before .before .before .before in
+    let kf = c .before .before .before .before .before .before .before .before in
+    let e4 = kf .before .before .before .before .before in
     let ho = e4 .before in
     let e3 = ho .before .before in
     let e2 = e3 .before .before in
     let e1 = e2 .before .before in
     let sh = e1 .before in
-    let a = sh .before .before .before .before .args in
-    let cs = columns (now (a .keys)) (now (a .times)) (now (a .values)) in
+    let a = sh .before .before .before .before .before .args in
+    let cs = columns (now (a .keys)) (now (a .times)) (now (a .values)) (now (a .marks)) in
     let m = meaning (a .h) cs in
     checkpoint-carried-out (a .t) (a .h) cs (sym (sh .shaped .ensures .0) ∙ not-false _ (e1 .if1 .left)) _ _
     (say 0 (checkpointRefusal (a .t) m) Absent
@@ -93,4 +93,4 @@ returns-5 c =
 pub checkpoint-spec : {M : Type 1} → statement M
 checkpoint-spec =
     tie.close (tie.spec (λ c κs. search needs) (λ c κs. search needs) returns (λ c κs. search needs) returns-2 (λ c κs. search needs) returns-3
-    (λ c κs. search needs) (λ c κs. search needs) returns-4 keep-from-requires (λ c. search needs) (λ c. search needs) (λ c. search needs) returns-5)
+    (λ c κs. search needs) (λ c κs. search needs) returns-4 keep-from-requires (λ c. search needs) (λ c. search needs) (λ c. search needs) (λ c. search needs) returns-5)

@@ -1,27 +1,27 @@
 -- `map_commit::count_written` meets its contract: the loop's invariant is the count of the rows that count among the first i; the measure is how many rows are left. Assumes nothing.
 use mathlib.Core.Path.{_≡_, refl, sym, _∙_}
 use mathlib.Core.Bool.{Bool, true, false}
-use mathlib.Core.List.{List}
 use mathlib.Core.Logic.{⊎-elim}
 use Prim.Native.Nat.{ℕ, _+_, _-_, _≤_}
 use lib.ListN.{length}
-use Rattle.slot.specs.Places.{notesOf}
+use Rattle.slot.specs.declared.Slot.{Slot}
 use Rattle.map_store.specs.Meaning.{firsts}
-use Rattle.map_commit.specs.RowLaws.{isFirst, first-more, first-same}
+use Rattle.map_commit.specs.Commit.{rowsTo, isFirst}
+use Rattle.map_commit.specs.RowLaws.{first-more, first-same}
 use borrow.Author.Needs.{needs}
 use native.Mathlib.Omega.{arith}
 use Rattle.map_commit.proofs.count_written.Statement.{statement}
 use Rattle.map_commit.proofs.count_written.Tie as tie
 
-module _ (ks vs : List ℕ) (i n m : ℕ) (b : Bool) (e : b ≡ isFirst ks vs i) (h : n ≡ length (firsts (notesOf ks vs i))) where
-  more : b ≡ true → m ≡ n + 1 → m ≡ length (firsts (notesOf ks vs (i + 1)))
-  more t f = rw (first-more ks vs i (sym e ∙ t)) (omega arith)
+module _ (s : Slot) (i n m : ℕ) (b : Bool) (e : b ≡ isFirst s i) (h : n ≡ length (firsts (rowsTo s i))) where
+  more : b ≡ true → m ≡ n + 1 → m ≡ length (firsts (rowsTo s (i + 1)))
+  more t f = rw (first-more s i (sym e ∙ t)) (omega arith)
 
-  same : b ≡ false → m ≡ n → m ≡ length (firsts (notesOf ks vs (i + 1)))
-  same t f = rw (first-same ks vs i (sym e ∙ t)) (f ∙ h)
+  same : b ≡ false → m ≡ n → m ≡ length (firsts (rowsTo s (i + 1)))
+  same t f = rw (first-same s i (sym e ∙ t)) (f ∙ h)
 
 abbrev Inv-loop : tie.InvT-loop
-Inv-loop s rows count₀ i₀ count i = (i ≤ rows) × (count ≤ i) × (count ≡ length (firsts (notesOf (s .keys) (s .values) i)))
+Inv-loop s rows count₀ i₀ count i = (i ≤ rows) × (count ≤ i) × (count ≡ length (firsts (rowsTo s i)))
 
 abbrev μ-loop : tie.MeasureT-loop
 μ-loop s rows count₀ i₀ count i = rows - i
@@ -53,8 +53,8 @@ loop-again c =
     let a = lp .before .args in
     let l = lp .loop in
     ⊎-elim
-    (λ w. (omega arith, omega arith, more (a .s .keys) (a .s .values) (l .i) (l .count) _ _ (fi .is-first .ensures) (l .inv .2) (w .0 .taken) (w .1)))
-    (λ w. (omega arith, omega arith, same (a .s .keys) (a .s .values) (l .i) (l .count) _ _ (fi .is-first .ensures) (l .inv .2) (w .0 .left) (w .1)))
+    (λ w. (omega arith, omega arith, more (a .s) (l .i) (l .count) _ _ (fi .is-first .ensures) (l .inv .2) (w .0 .taken) (w .1)))
+    (λ w. (omega arith, omega arith, same (a .s) (l .i) (l .count) _ _ (fi .is-first .ensures) (l .inv .2) (w .0 .left) (w .1)))
     (c .if1 .came)
 
 returns : tie.Need-returns Inv-loop μ-loop

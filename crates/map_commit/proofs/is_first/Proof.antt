@@ -1,6 +1,6 @@
 -- `map_commit::is_first` meets its contract: a row is the first with its key exactly if no row before it is found. Assumes nothing.
 use mathlib.Core.Path.{_≡_, sym, _∙_}
-use mathlib.Core.Bool.{true, false, not}
+use mathlib.Core.Bool.{true, false}
 use Prim.Native.Nat.{ℕ, _<_}
 use lib.ListN.{getD, take}
 use Rattle.column.specs.declared.Found.{Found}
@@ -8,17 +8,17 @@ use Rattle.column.specs.declared.Found.the-variants.{At, Nothing}
 use Rattle.column.specs.Column.{firstRow}
 use Rattle.slot.specs.declared.Slot.{Slot}
 use Rattle.slot.specs.Formed.{Rowed}
-use Rattle.slot.specs.Places.{hasKey, notesOf}
+use Rattle.map_commit.specs.Commit.{isFirst}
 use Rattle.map_commit.specs.RowLaws.{has-before}
 use borrow.Author.Needs.{needs}
 use Rattle.map_commit.proofs.is_first.Statement.{statement}
 use Rattle.map_commit.proofs.is_first.Tie as tie
 
 module _ (s : Slot) (w : Rowed s) (i : ℕ) (l : i < s .count) (f : Found) (e : f ≡ firstRow (getD (s .keys) i 0) (take i (s .keys))) where
-  again : (j : ℕ) → f ≡ At j → false ≡ not (hasKey (getD (s .keys) i 0) (notesOf (s .keys) (s .values) i))
+  again : (j : ℕ) → f ≡ At j → false ≡ isFirst s i
   again j g = rw (has-before s w i (getD (s .keys) i 0) l, sym e ∙ g)
 
-  first : f ≡ Nothing → true ≡ not (hasKey (getD (s .keys) i 0) (notesOf (s .keys) (s .values) i))
+  first : f ≡ Nothing → true ≡ isFirst s i
   first g = rw (has-before s w i (getD (s .keys) i 0) l, sym e ∙ g)
 
 returns : tie.Need-returns

@@ -18,16 +18,16 @@ use Rattle.map_list.proofs.list.Tie as tie
 
 returns : tie.Need-returns
 returns c =
-    let a = c .before .before .before .before .before .before .args in
-    let cs = columns (now (a .keys)) (now (a .times)) (now (a .values)) in
+    let a = c .before .before .before .before .before .before .before .args in
+    let cs = columns (now (a .keys)) (now (a .times)) (now (a .values)) (now (a .marks)) in
     list-unpaired (a .t) (a .h) cs (now (a .out-keys)) (now (a .out-values)) (ne-eqb _ _ (c .if1 .taken))
 
 returns-2 : tie.Need-returns-2
 returns-2 c =
     let sh = c .before in
     let e1 = sh .before in
-    let a = e1 .before .before .before .before .before .before .args in
-    let cs = columns (now (a .keys)) (now (a .times)) (now (a .values)) in
+    let a = e1 .before .before .before .before .before .before .before .args in
+    let cs = columns (now (a .keys)) (now (a .times)) (now (a .values)) (now (a .marks)) in
     list-bad-shape (a .t) (a .h) cs (now (a .out-keys)) (now (a .out-values)) (eq-eqb _ _ (e1 .if1 .left))
     (sym (sh .shaped .ensures .0) ∙ not-true _ (c .if2 .taken))
 
@@ -36,8 +36,8 @@ returns-3 c =
     let e2 = c .before .before in
     let sh = e2 .before in
     let e1 = sh .before in
-    let a = e1 .before .before .before .before .before .before .args in
-    let cs = columns (now (a .keys)) (now (a .times)) (now (a .values)) in
+    let a = e1 .before .before .before .before .before .before .before .args in
+    let cs = columns (now (a .keys)) (now (a .times)) (now (a .values)) (now (a .marks)) in
     let m = meaning (a .h) cs in
     list-untimely (a .t) (a .h) cs (now (a .out-keys)) (now (a .out-values)) (eq-eqb _ _ (e1 .if1 .left))
     (sym (sh .shaped .ensures .0) ∙ not-false _ (e2 .if2 .left)) TooOld
@@ -50,8 +50,8 @@ returns-4 c =
     let e2 = e3 .before .before in
     let sh = e2 .before in
     let e1 = sh .before in
-    let a = e1 .before .before .before .before .before .before .args in
-    let cs = columns (now (a .keys)) (now (a .times)) (now (a .values)) in
+    let a = e1 .before .before .before .before .before .before .before .args in
+    let cs = columns (now (a .keys)) (now (a .times)) (now (a .values)) (now (a .marks)) in
     let m = meaning (a .h) cs in
     list-untimely (a .t) (a .h) cs (now (a .out-keys)) (now (a .out-values)) (eq-eqb _ _ (e1 .if1 .left))
     (sym (sh .shaped .ensures .0) ∙ not-false _ (e2 .if2 .left)) Future
@@ -64,10 +64,11 @@ write-any-requires c κs =
     let e2 = e4 .before .before .before .before in
     let sh = e2 .before in
     let e1 = sh .before in
-    let a = e1 .before .before .before .before .before .before .args in
-    let cs = columns (now (a .keys)) (now (a .times)) (now (a .values)) in
+    let a = e1 .before .before .before .before .before .before .before .args in
+    let cs = columns (now (a .keys)) (now (a .times)) (now (a .values)) (now (a .marks)) in
     let s = sh .shaped .ensures .1 (not-false _ (e2 .if2 .left)) in
-    (lent (a .h) cs s, s .limit, e1 .if1 .left)
+    let l = lent (a .h) cs s in
+    (l .keys, l .times, l .values, s .limit, e1 .if1 .left)
 
 returns-5 : tie.Need-returns-5
 returns-5 c =
@@ -77,10 +78,10 @@ returns-5 c =
     let e2 = e3 .before .before in
     let sh = e2 .before in
     let e1 = sh .before in
-    let a = e1 .before .before .before .before .before .before .args in
-    let cs = columns (now (a .keys)) (now (a .times)) (now (a .values)) in
+    let a = e1 .before .before .before .before .before .before .before .args in
+    let cs = columns (now (a .keys)) (now (a .times)) (now (a .values)) (now (a .marks)) in
     list-timed (a .t) (a .h) cs (now (a .out-keys)) (now (a .out-values)) (eq-eqb _ _ (e1 .if1 .left))
-    (sym (sh .shaped .ensures .0) ∙ not-false _ (e2 .if2 .left)) (e3 .if3 .left) (e4 .if4 .left) (ofListed (w .write-any .result)) _ _ (w .write-any .ensures)
+    (sym (sh .shaped .ensures .0) ∙ not-false _ (e2 .if2 .left)) (e3 .if3 .left) (e4 .if4 .left) (ofListed (w .write-any .result)) _ _ (w .write-any .ensures (now (a .marks)))
 
 pub list-spec : {M : Type 1} → statement M
 list-spec =

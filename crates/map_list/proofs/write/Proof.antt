@@ -1,6 +1,6 @@
 -- `map_list::write` meets its contract: the list that was made aside is told, and copied where there is room. Assumes nothing.
 use mathlib.Core.Path.{_≡_, refl, ap}
-use mathlib.Core.List.{List, _++_}
+use mathlib.Core.List.{List, [], _++_}
 use Prim.Native.Nat.{ℕ, _≤_, _<_}
 use native.Mathlib.Omega.{arith}
 use lib.ListN.{length, take, drop}
@@ -40,34 +40,34 @@ module _ (rows : List Row) (oks ovs : List ℕ) {a b a' b' : List ℕ} {n : ℕ}
       }
 
 returns : tie.Need-returns
-returns c =
+returns c marks =
     let g = c .before .before .before .before .before in
     let a = g .before .before .before .before .before .before .before .before .before .before .args in
-    let cs = columns (now (a .keys)) (now (a .times)) (now (a .values)) in
+    let cs = columns (now (a .keys)) (now (a .times)) (now (a .values)) marks in
     no-room (listAt (versionsOf (a .used) cs) (a .t)) (now (a .out-keys)) (now (a .out-values))
-    (g .listing .ensures) (c .if1 .taken)
+    (g .listing .ensures marks) (c .if1 .taken)
 
 copy-requires : tie.Need-copy-requires
 copy-requires c κs =
     let g = c .before .before .before .before .before .before .before in
-    (next-within _ _ _ _ _ _ (g .listing .ensures) .in-keys, omega arith)
+    (next-within _ _ _ _ _ _ (g .listing .ensures []) .in-keys, omega arith)
 
 copy-requires-2 : tie.Need-copy-requires-2
 copy-requires-2 c κs =
     let e = c .before .before .before .before .before .before .before in
     let g = e .before .before .before .before .before in
-    (next-within _ _ _ _ _ _ (g .listing .ensures) .in-values, omega (arith, e .if1 .left))
+    (next-within _ _ _ _ _ _ (g .listing .ensures []) .in-values, omega (arith, e .if1 .left))
 
 returns-2 : tie.Need-returns-2
-returns-2 c =
+returns-2 c marks =
     let v = c .before .before in
     let k = v .before .before .before .before .before in
     let e = k .before .before .before in
     let g = e .before .before .before .before .before in
     let a = g .before .before .before .before .before .before .before .before .before .before .args in
-    let cs = columns (now (a .keys)) (now (a .times)) (now (a .values)) in
+    let cs = columns (now (a .keys)) (now (a .times)) (now (a .values)) marks in
     copied (listAt (versionsOf (a .used) cs) (a .t)) (now (a .out-keys)) (now (a .out-values))
-    (g .listing .ensures) (e .if1 .left) (k .copy .ensures) (v .copy2 .ensures)
+    (g .listing .ensures marks) (e .if1 .left) (k .copy .ensures) (v .copy2 .ensures)
 
 pub write-spec : {M : Type 1} → statement M
 write-spec =

@@ -28,30 +28,41 @@ returns-4 c =
 
 returns-5 : tie.Need-returns-5
 returns-5 c =
-    let e4 = c .before .before in
+    let e4 = c .before in
     let e3 = e4 .before in
     let e2 = e3 .before in
     let e1 = e2 .before in
-    (rw (le-leb _ _ (e1 .if1 .left), le-leb _ _ (e2 .if2 .left), eq-eqb _ _ (e3 .if3 .left), eq-eqb _ _ (e4 .if4 .left), eq-eqb _ _ (c .if5 .taken)), λ e. absurd (false≢true e))
+    (rw (le-leb _ _ (e1 .if1 .left), le-leb _ _ (e2 .if2 .left), eq-eqb _ _ (e3 .if3 .left), eq-eqb _ _ (e4 .if4 .left), ne-eqb _ _ (c .if5 .taken)), λ e. absurd (false≢true e))
 
 returns-6 : tie.Need-returns-6
 returns-6 c =
     let e5 = c .before .before in
-    let e4 = e5 .before .before in
+    let e4 = e5 .before in
+    let e3 = e4 .before in
+    let e2 = e3 .before in
+    let e1 = e2 .before in
+    (rw (le-leb _ _ (e1 .if1 .left), le-leb _ _ (e2 .if2 .left), eq-eqb _ _ (e3 .if3 .left), eq-eqb _ _ (e4 .if4 .left), eq-eqb _ _ (e5 .if5 .left), eq-eqb _ _ (c .if6 .taken)), λ e. absurd (false≢true e))
+
+returns-7 : tie.Need-returns-7
+returns-7 c =
+    let e6 = c .before .before in
+    let e5 = e6 .before .before in
+    let e4 = e5 .before in
     let e3 = e4 .before in
     let e2 = e3 .before in
     let e1 = e2 .before in (
-      rw (le-leb _ _ (e1 .if1 .left), le-leb _ _ (e2 .if2 .left), eq-eqb _ _ (e3 .if3 .left), eq-eqb _ _ (e4 .if4 .left), ne-eqb _ _ (e5 .if5 .left)) (c .shaped .ensures .0),
+      rw (le-leb _ _ (e1 .if1 .left), le-leb _ _ (e2 .if2 .left), eq-eqb _ _ (e3 .if3 .left), eq-eqb _ _ (e4 .if4 .left), eq-eqb _ _ (e5 .if5 .left), ne-eqb _ _ (e6 .if6 .left)) (c .shaped .ensures .0),
       λ t.
           record {
             limit = e1 .if1 .left;
             rows = e2 .if2 .left;
             times = e3 .if3 .left;
             values = e4 .if4 .left;
-            numbered = e5 .if5 .left;
+            marks = e5 .if5 .left;
+            numbered = e6 .if6 .left;
             formed = c .shaped .ensures .1 t;
           },
     )
 
 pub shaped-spec : {M : Type 1} → statement M
-shaped-spec = tie.close (tie.spec returns returns-2 returns-3 returns-4 returns-5 (λ c κs. search needs) returns-6)
+shaped-spec = tie.close (tie.spec returns returns-2 returns-3 returns-4 returns-5 returns-6 (λ c κs. search needs) returns-7)

@@ -32,7 +32,7 @@ returns-2 c =
     let at = c .before .before .before in
     let fd = at .before .before in
     let e1 = fd .before .before in
-    let a = e1 .before .before .before .before .before .args in
+    let a = e1 .before .before .before .before .before .before .args in
     carried-out (stood (e1 .before .shaped .ensures .0) (e1 .if1 .left)) _ _ (c .accepted .ensures)
     (abort-done (place-found (a .h .slots) (a .n) (fd .find .ensures .0) (at .i .given .1)))
     (freed (a .h) (a .n) (fd .find .ensures .0) (at .i .given .1) (c .before .closed .ensures))
@@ -41,7 +41,7 @@ returns-3 : tie.Need-returns-3
 returns-3 c =
     let fd = c .before .before .before in
     let e1 = fd .before .before in
-    let a = e1 .before .before .before .before .before .args in
+    let a = e1 .before .before .before .before .before .before .args in
     turned-down (stood (e1 .before .shaped .ensures .0) (e1 .if1 .left)) _ UnknownTransaction (c .refused2 .ensures)
     (abort-unknown (place-none (a .h .slots) (a .n) (fd .find .ensures .0) (c .before .enum-told .given .1)))
 

@@ -14,10 +14,10 @@ returns-2 : tie.Need-returns-2
 returns-2 c = begin-future (c .before .before .if1 .left) (c .if2 .taken)
 
 -- a slot that is occupied is a place that is taken
-counted : (p : tie.After-running) → let st = p .before .before .before .before .before .before .before .before .before in
+counted : (p : tie.After-running) → let st = p .before .before .before .before .before .before .before .before .before .before in
     p .running .result ≡ occupied (placesOf (st .args .h .slots))
 counted p =
-    let st = p .before .before .before .before .before .before .before .before .before in
+    let st = p .before .before .before .before .before .before .before .before .before .before in
     p .running .ensures ∙ sym (occupied-places (st .args .h .slots) (st .pre .formed .byte))
 
 returns-3 : tie.Need-returns-3

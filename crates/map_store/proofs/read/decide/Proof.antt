@@ -23,9 +23,9 @@ returns : tie.Need-returns
 returns c =
     let at = c .before .before in
     let fd = at .before .before in
-    let st = fd .before .before .before .before .before in
+    let st = fd .before .before .before .before .before .before in
     let a = st .args in
-    let cs = columns (now (a .keys)) (now (a .times)) (now (a .values)) in
+    let cs = columns (now (a .keys)) (now (a .times)) (now (a .values)) (now (a .marks)) in
     let m = meaning (a .h) cs in
     say 3 (readRefusal (a .n) (a .k) m) (readIn (a .n) (a .k) m)
     (read-key m (a .n) (a .k) _ _ _ (place-found (a .h .slots) (a .n) (fd .find .ensures .0) (at .i .given .1)) (c .if1 .taken))
@@ -41,10 +41,11 @@ current-value-requires c κs =
     let sl = c in
     let at = sl .before .before .before in
     let fd = at .before .before in
-    let st = fd .before .before .before .before .before in
+    let st = fd .before .before .before .before .before .before in
     let a = st .args in
-    let cs = columns (now (a .keys)) (now (a .times)) (now (a .values)) in
-    (rw (sl .at .ensures) (rowed-found (a .h .slots) (a .n) (fd .find .ensures .0) (at .i .given .1) (st .pre .formed)), lent (a .h) cs (st .pre))
+    let cs = columns (now (a .keys)) (now (a .times)) (now (a .values)) (now (a .marks)) in
+    let l = lent (a .h) cs (st .pre) in
+    (rw (sl .at .ensures) (rowed-found (a .h .slots) (a .n) (fd .find .ensures .0) (at .i .given .1) (st .pre .formed)), l .keys, l .times, l .values)
 
 returns-2 : tie.Need-returns-2
 returns-2 c =
@@ -52,18 +53,18 @@ returns-2 c =
     let e1 = sl .before in
     let at = e1 .before .before in
     let fd = at .before .before in
-    let a = fd .before .before .before .before .before .args in
-    let cs = columns (now (a .keys)) (now (a .times)) (now (a .values)) in
+    let a = fd .before .before .before .before .before .before .args in
+    let cs = columns (now (a .keys)) (now (a .times)) (now (a .values)) (now (a .marks)) in
     let m = meaning (a .h) cs in
-    say-value (readRefusal (a .n) (a .k) m) _ (readIn (a .n) (a .k) m) (reads m (a .n) (a .k) (sl .at .result) (place-found (a .h .slots) (a .n) (fd .find .ensures .0) (at .i .given .1) ∙ ap takenBy (sym (sl .at .ensures))) _ (c .current-value .ensures))
+    say-value (readRefusal (a .n) (a .k) m) _ (readIn (a .n) (a .k) m) (reads m (a .n) (a .k) (sl .at .result) (place-found (a .h .slots) (a .n) (fd .find .ensures .0) (at .i .given .1) ∙ ap takenBy (sym (sl .at .ensures))) _ (c .current-value .ensures (now (a .marks))))
     (read-done m (a .n) (a .k) _ _ _ (place-found (a .h .slots) (a .n) (fd .find .ensures .0) (at .i .given .1)) (e1 .if1 .left))
 
 returns-3 : tie.Need-returns-3
 returns-3 c =
     let fd = c .before .before in
-    let st = fd .before .before .before .before .before in
+    let st = fd .before .before .before .before .before .before in
     let a = st .args in
-    let cs = columns (now (a .keys)) (now (a .times)) (now (a .values)) in
+    let cs = columns (now (a .keys)) (now (a .times)) (now (a .values)) (now (a .marks)) in
     let m = meaning (a .h) cs in
     say 2 (readRefusal (a .n) (a .k) m) (readIn (a .n) (a .k) m)
     (read-unknown m (a .n) (a .k) (place-none (a .h .slots) (a .n) (fd .find .ensures .0) (c .enum-told .given .1)))

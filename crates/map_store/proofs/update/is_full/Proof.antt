@@ -11,7 +11,7 @@ use Rattle.column.specs.declared.Found.the-variants.{At, Nothing}
 use Rattle.rules.specs.Bools.{split}
 use Rattle.slot.specs.declared.Slot.{Slot}
 use Rattle.slot.specs.Slot.{keyRow}
-use Rattle.slot.specs.Slots.{met}
+use Rattle.slot.specs.Slots.{isFound}
 use Rattle.slot.specs.Formed.{Rowed}
 use Rattle.slot.specs.Places.{hasKey, slotRows}
 use Rattle.slot.specs.RowLaws.{has-row, length-rows}
@@ -20,11 +20,11 @@ use Rattle.map_store.proofs.update.is_full.Tie as tie
 
 module _ (s : Slot) (w : Rowed s) (k : ℕ) (f : Found) (e : f ≡ keyRow s k) where
   there : {i : ℕ} → f ≡ At i → false ≡ not (hasKey k (slotRows s) || ltb (length (slotRows s)) 32)
-  there g = rw (has-row s w k ∙ ap met (sym e ∙ g))
+  there g = rw (has-row s w k ∙ ap isFound (sym e ∙ g))
 
   not-there : f ≡ Nothing → leb 32 (s .count) ≡ not (hasKey k (slotRows s) || ltb (length (slotRows s)) 32)
   not-there g =
-      rw (has-row s w k ∙ ap met (sym e ∙ g), length-rows (s .keys) (s .values) (s .count))
+      rw (has-row s w k ∙ ap isFound (sym e ∙ g), length-rows (s .keys) (s .values) (s .marks) (s .count))
       (split (leb 32 (s .count))
       (λ l. rw (l, le-ltb (s .count) 32 (leb-true 32 (s .count) l)))
       (λ l. rw (l, lt-ltb (s .count) 32 (leb-false 32 (s .count) l))))

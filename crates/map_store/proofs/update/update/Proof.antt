@@ -29,12 +29,10 @@ use Rattle.map_store.specs.Tests.{update-unknown, update-key, update-ful
 use Rattle.map_store.proofs.update.update.Statement.{statement}
 use Rattle.map_store.proofs.update.update.Tie as tie
 
--- the slot that was found has the running value noted
-changed : (h : MapHead) (n k : ℕ) (x : Effect) (vs : List Version) {f : Found} → f ≡ slotOf (h .slots) n → {i : ℕ} → f ≡ At i
-    → {v : ℕ} → v ≡ orZero (applied x (current k (slotAt (h .slots) i .snapshot) (slotRows (slotAt (h .slots) i)) vs))
-    → {s : Slot} → s ≡ noted (slotAt (h .slots) i) k v
-    → withSlots h (record { occupied = h .slots .occupied; slots = set (h .slots .slots) i s }) ≡ updatedHead k x (slotOf (h .slots) n) h vs
-changed h n k x vs e g ev es = rw (sym e ∙ g, es, ev)
+-- the slot that was found has the update noted
+changed : (h : MapHead) (n k : ℕ) (x : Effect) {f : Found} → f ≡ slotOf (h .slots) n → {i : ℕ} → f ≡ At i → {s : Slot} → s ≡ noted (slotAt (h .slots) i) k x
+    → withSlots h (record { occupied = h .slots .occupied; slots = set (h .slots .slots) i s }) ≡ updatedHead k x (slotOf (h .slots) n) h
+changed h n k x e g es = rw (sym e ∙ g, es)
 
 returns : tie.Need-returns
 returns c =
@@ -44,7 +42,7 @@ returns-2 : tie.Need-returns-2
 returns-2 c =
     let fd = c .before .before .before in
     let e1 = fd .before .before in
-    let a = e1 .before .before .before .before .before .args in
+    let a = e1 .before .before .before .before .before .before .args in
     turned-down (stood (e1 .before .shaped .ensures .0) (e1 .if1 .left)) _ UnknownTransaction (c .refused2 .ensures)
     (update-unknown (place-none (a .h .slots) (a .n) (fd .find .ensures .0) (c .before .enum-told .given .1)))
 
@@ -53,7 +51,7 @@ returns-3 c =
     let fo = c .before .before .before in
     let fd = fo .before .before in
     let e1 = fd .before .before in
-    let a = e1 .before .before .before .before .before .args in
+    let a = e1 .before .before .before .before .before .before .args in
     turned-down (stood (e1 .before .shaped .ensures .0) (e1 .if1 .left)) _ BadKey (c .refused3 .ensures)
     (update-key (place-found (a .h .slots) (a .n) (fd .find .ensures .0) (fo .found .given .1)) (c .before .if2 .taken))
 
@@ -74,7 +72,7 @@ is-full-requires : tie.Need-is-full-requires
 is-full-requires c κs =
     let fo = c .before .before .before in
     let e1 = fo .before .before .before .before in
-    let a = e1 .before .before .before .before .before .args in
+    let a = e1 .before .before .before .before .before .before .args in
     rowed-found (a .h .slots) (a .n) (fo .before .before .find .ensures .0) (fo .found .given .1) (e1 .before .shaped .ensures .1 (not-false _ (e1 .if1 .left)) .formed)
 
 returns-4 : tie.Need-returns-4
@@ -84,47 +82,37 @@ returns-4 c =
     let fo = e2 .before .before in
     let fd = fo .before .before in
     let e1 = fd .before .before in
-    let a = e1 .before .before .before .before .before .args in
+    let a = e1 .before .before .before .before .before .before .args in
     turned-down (stood (e1 .before .shaped .ensures .0) (e1 .if1 .left)) _ KeysFull (c .refused4 .ensures)
     (update-full (place-found (a .h .slots) (a .n) (fd .find .ensures .0) (fo .found .given .1)) (e2 .if2 .left) (fl .is-full .ensures) (c .before .if3 .taken))
 
-running-value-requires : tie.Need-running-value-requires
-running-value-requires c κs =
-    let fo = c .before .before .before .before .before in
-    let e1 = fo .before .before .before .before in
-    let a = e1 .before .before .before .before .before .args in
-    let w = e1 .before .shaped .ensures .1 (not-false _ (e1 .if1 .left)) in
-    (rowed-found (a .h .slots) (a .n) (fo .before .before .find .ensures .0) (fo .found .given .1) (w .formed), lent (a .h) (columns (now (a .keys)) (now (a .times)) (now (a .values))) w)
-
 mul-t15 : tie.Need-mul-t15
 mul-t15 c =
-    let fo = c .before .before .before .before .before .before .before in
+    let fo = c .before .before .before .before .before .before in
     let fd = fo .before .before in
     let l = fd .find .ensures .1 (fo .found .given .0 .0) (fo .found .given .1) in
     omega arith
 
 element-set-from-slots : tie.Need-element-set-from-slots
 element-set-from-slots c =
-    let fo = c .before .before .before .before .before .before .before in
+    let fo = c .before .before .before .before .before .before in
     let fd = fo .before .before in
     fd .find .ensures .1 (fo .found .given .0 .0) (fo .found .given .1)
 
 returns-5 : tie.Need-returns-5
 returns-5 c =
-    let rv = c .before .before in
-    let e3 = rv .before in
+    let e3 = c .before .before in
     let e2 = e3 .before .before .before in
     let fo = e2 .before .before in
     let fd = fo .before .before in
     let e1 = fd .before .before in
-    let a = e1 .before .before .before .before .before .args in
-    let cs = columns (now (a .keys)) (now (a .times)) (now (a .values)) in
+    let a = e1 .before .before .before .before .before .before .args in
     carried-out (stood (e1 .before .shaped .ensures .0) (e1 .if1 .left)) _ _ (c .accepted .ensures)
     (update-fits (place-found (a .h .slots) (a .n) (fd .find .ensures .0) (fo .found .given .1)) (e2 .if2 .left) (e3 .before .is-full .ensures) (e3 .if3 .left))
-    (changed (a .h) (a .n) (a .k) (a .e) (meaning (a .h) cs .versions) (fd .find .ensures .0) (fo .found .given .1) (rv .running-value .ensures) (c .before .note .ensures))
+    (changed (a .h) (a .n) (a .k) (a .e) (fd .find .ensures .0) (fo .found .given .1) (c .before .note .ensures))
 
 pub update-spec : {M : Type 1} → statement M
 update-spec =
     tie.close (tie.spec (λ c κs. search needs) (λ c κs. search needs) returns (λ c κs. search needs) (λ c. search needs) (λ c. search needs)
     (λ c κs. search needs) returns-2 (λ c κs. search needs) returns-3 mul-s element-copy-out-s is-full-requires (λ c κs. search needs) returns-4
-    running-value-requires (λ c κs. search needs) mul-t15 element-set-from-slots (λ c κs. search needs) returns-5)
+    (λ c κs. search needs) mul-t15 element-set-from-slots (λ c κs. search needs) returns-5)
