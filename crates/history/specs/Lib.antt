@@ -3,6 +3,7 @@ pub mod Theorems
 -- What a reader must believe: the history, its refusals, and what a sequence of calls is.
 pub mod History
 pub mod Refusals
+pub mod Adders
 pub mod Lawful
 pub mod Cells
 pub mod MapCells
@@ -13,7 +14,9 @@ pub mod Endings
 pub mod Silence
 pub mod MapDemands
 pub mod Corollaries
+pub mod Counters
 pub mod Witness
+pub mod SharedWitness
 pub mod Marked
 -- The same on what a journal store means: the invariant of its sequences.
 pub mod LawfulLaws

@@ -11,7 +11,7 @@ use Rattle.rules.specs.declared.Effect.{Effect}
 use Rattle.rules.specs.Kinds.{isUpdate}
 use Rattle.rules.specs.Transactions.{any, of, wrote, keysWritten}
 use Rattle.rules.specs.Lists.{among}
-use Rattle.rules.specs.Conflicts.{touched}
+use Rattle.rules.specs.Conflicts.{onlyAdded, touched}
 use Rattle.rules.specs.Calls.{Store, nextOf, runsIn, snapshotIn, readOf, heldIn, mayWriteIn, conflictIn, updated, Begin, Update, Abort, Commit, refusal}
 use Rattle.rules.specs.Bools.{split, or-right, not-both}
 use Rattle.slot.specs.RowLaws.{length-keys}
@@ -19,7 +19,7 @@ use Rattle.rules.specs.Running.{wrote-among}
 use Rattle.slot.specs.Places.{Note, noteKeys, Place, taken, placeOf, holds}
 use Rattle.versions.specs.declared.Version.{Version}
 use Rattle.versions.specs.Versions.{at, later}
-use Rattle.map_store.specs.Meaning.{MapStore, clash, readAt, abortRefusal, updateRefusal, commitRefusal}
+use Rattle.map_store.specs.Meaning.{MapStore, firsts, clash, readAt, abortRefusal, updateRefusal, commitRefusal}
 use Rattle.history.specs.History.{Deed, Did, Checkpointed}
 use Rattle.history.specs.Refusals.{anyOf}
 use Rattle.history.specs.KeptAlike.{not-held}
@@ -32,8 +32,8 @@ use Rattle.history.specs.Lawful.{Lawful, start, went}
 use Rattle.history.specs.Sound.{Sound, sound-last}
 use Rattle.history.specs.Whole.{sound, lawful-allowed}
 use Rattle.history.specs.Maps.{mapRefused, mapDid, mapped}
-use Rattle.history.specs.MapPlaces.{has-among, holds-not, holds-none}
-use Rattle.history.specs.MapAgrees.{conflict-wrote, Says, idle, busy, Agree, Sane, agree-begin, agree-abort, agree-commit, current-is, agree-update, agree-checkpoint}
+use Rattle.history.specs.MapPlaces.{has-among, addsAt, firsts-written, Adds, none, more, adds-written, holds-not, holds-none}
+use Rattle.history.specs.MapAgrees.{facing, conflict-wrote, Says, idle, busy, Agree, Sane, agree-begin, agree-abort, agree-commit, current-is, agree-update, agree-checkpoint}
 use Rattle.map_store.specs.Meaning as map
 
 -- a key that passes
@@ -56,10 +56,11 @@ any-keys p (r ∷ own) =
     (λ w. rw (u, w, any-keys p own)))
     (λ u. rw u (any-keys p own))
 
--- a clash is a later version of some key
-clash-keys : (s : ℕ) (rows : List Note) (vs : List Version) (p : ℕ → Bool) → ((k : ℕ) → later s k vs ≡ p k) → clash s rows vs ≡ anyOf p (noteKeys rows)
-clash-keys s [] vs p h = refl
-clash-keys s (r ∷ rows) vs p h = rw (h (r .key), clash-keys s rows vs p h)
+-- a clash is a later version of some key, adds excused where its row adds
+clash-keys : (s : ℕ) (rows : List Note) (vs : List Version) (adds p : ℕ → Bool) → Adds adds rows → ((k : ℕ) → later s k (adds k) vs ≡ p k)
+    → clash s rows vs ≡ anyOf p (noteKeys rows)
+clash-keys s [] vs adds p none h = refl
+clash-keys s (r ∷ rows) vs adds p (more e a) h = rw (e, h (r .key), clash-keys s rows vs adds p a h)
 
 module _ (m : MapStore) (h : Store) (a : Agree m (h .low) (h .records)) (g : Sane (h .low) (h .records)) (one : h .floor ≡ 1) where
   -- the next number
@@ -68,26 +69,30 @@ module _ (m : MapStore) (h : Store) (a : Agree m (h .low) (h .records)) (g : San
 
   -- the map's conflict is rule 3.6's
   clash-same : (n s : ℕ) (rows : List Note) → runsIn n h ≡ true → s ≡ snapshotIn n h
-      → noteKeys rows ≡ keysWritten (of n (h .records)) → clash s rows (m .versions) ≡ conflictIn n h
-  clash-same n s rows u v keys =
+      → noteKeys rows ≡ keysWritten (of n (h .records)) → ((k : ℕ) → addsAt k rows ≡ onlyAdded k (of n (h .records)))
+      → clash s (firsts rows) (m .versions) ≡ conflictIn n h
+  clash-same n s rows u v keys b =
       let z = snapshotIn n h in
-      rw v
-      (clash-keys z rows (m .versions) (λ k. touched (h .records) z (wrote k) (h .records)) (λ k. a .touches z k (g .from n u))
-      ∙ ap (anyOf (λ k. touched (h .records) z (wrote k) (h .records))) keys
-      ∙ any-keys (λ k. touched (h .records) z (wrote k) (h .records)) (of n (h .records))
+      let own = of n (h .records) in
+      let adds : ℕ → Bool = λ k. onlyAdded k (of n (h .records)) in
+      let met : ℕ → Bool = λ k. touched (h .records) (snapshotIn n h) (facing k (onlyAdded k (of n (h .records)))) (h .records) in
+      rw (v, firsts-written rows own keys)
+      (clash-keys z rows (m .versions) adds met (adds-written adds rows own keys b) (λ k. a .touches z k (adds k) (g .from n u))
+      ∙ ap (anyOf met) keys
+      ∙ any-keys met own
       ∙ sym (conflict-wrote n z (h .records)))
 
   -- a snapshot, by its place
   snap-told : (T n : ℕ) (p : Place) → Says (h .records) n p → runsIn n h ≡ true
       → ((s : ℕ) (rows : List Note) → p ≡ taken n s rows → T ≤ s) → T ≤ snapshotIn n h
   snap-told T n p (idle u) r f = not-both (runsIn n h) r u
-  snap-told T n p (busy s rows u v keys w) r f = rw (← v) (f s rows refl)
+  snap-told T n p (busy s rows u v keys w b) r f = rw (← v) (f s rows refl)
 
   -- a place, by its snapshot
   place-told : (T n : ℕ) (p : Place) → Says (h .records) n p → (s : ℕ) (rows : List Note) → p ≡ taken n s rows
       → (runsIn n h ≡ true → T ≤ snapshotIn n h) → T ≤ s
   place-told T n p (idle u) s rows e f = let z : _≡_ {A = ℕ} 0 1 = cc in absurd (omega arith)
-  place-told T n p (busy s2 rows2 u v keys w) s rows e f = let z : s2 ≡ s = cc in let y = f u in omega (arith, v, z, y)
+  place-told T n p (busy s2 rows2 u v keys w b) s rows e f = let z : s2 ≡ s = cc in let y = f u in omega (arith, v, z, y)
 
   -- a place holds T exactly if a running snapshot does
   holds-same : (T : ℕ) → holds T (m .places) ≡ heldIn T h
@@ -109,19 +114,19 @@ module _ (m : MapStore) (h : Store) (a : Agree m (h .low) (h .records)) (g : San
   -- an update's refusal
   update-same : (n k : ℕ) (e : Effect) (p : Place) → Says (h .records) n p → updateRefusal k p ≡ refusal (Update n k e) h
   update-same n k e p (idle u) = rw u
-  update-same n k e p (busy s rows u v keys w) =
+  update-same n k e p (busy s rows u v keys w b) =
       rw (u, has-among k rows, ← length-keys rows, keys, wrote-among k (of n (h .records)))
       (split (mayWriteIn n k h) (λ x. rw x) (λ x. rw x))
 
   -- an abort's refusal
   abort-same : (n : ℕ) (p : Place) → Says (h .records) n p → abortRefusal p ≡ refusal (Abort n) h
   abort-same n p (idle u) = rw u
-  abort-same n p (busy s rows u v keys w) = rw u
+  abort-same n p (busy s rows u v keys w b) = rw u
 
   -- a commit's refusal
   commit-same : (n t : ℕ) (p : Place) → Says (h .records) n p → commitRefusal t m p ≡ refusal (Commit n t) h
   commit-same n t p (idle u) = rw u
-  commit-same n t p (busy s rows u v keys w) = rw (u, a .lasts, clash-same n s rows u v keys)
+  commit-same n t p (busy s rows u v keys w b) = rw (u, a .lasts, clash-same n s rows u v keys b)
 
   -- the map refuses what the whole journal would
   pub map-refused : (d : Deed) → mapRefused d m ≡ refused d h
@@ -137,9 +142,9 @@ module _ (m : MapStore) (h : Store) (a : Agree m (h .low) (h .records)) (g : San
   agree-deed (may-update n k e p q u) =
       let w = writing n k e in
       rw (w .number, w .key, w .effect) at
-      (agree-update m (h .low) (h .records) a g (updated n k e) (rw (w .number) p) (w .begins) (w .commits) (w .ends) (w .updates) (rw (w .key) q))
+      (agree-update m (h .low) (h .records) a g (updated n k e) (rw (w .number) p) (w .begins) (w .commits) (w .ends) (w .updates))
   agree-deed (may-abort n p) = agree-abort m (h .low) (h .records) a g n p
-  agree-deed (may-commit n t p q u) = agree-commit m (h .low) (h .records) a g n p t q u
+  agree-deed (may-commit n t p q u) = agree-commit m (h .low) (h .records) a g n p t q
   agree-deed (may-checkpoint t p q u) = agree-checkpoint m (h .low) (h .records) a g t p q
 
 -- lawful deeds give the map what it needs to know
@@ -164,7 +169,7 @@ agree start =
       eight = refl;
       count = refl;
       values = λ k t i l. refl;
-      touches = λ s k l. refl;
+      touches = λ s k adds l. refl;
       orders = refl;
     }
 agree (went {d = d} {ds = ds} l e) = agree-deed (mapped ds) (whole ds) (agree l) (sane (whole ds) (sound l)) (sound l .one) (lawful-allowed l {d = d} e)
@@ -176,6 +181,6 @@ map-read {ds} l n k u i = go (placeOf n (mapped ds .places)) (agree l .says n)
   where
     go : (p : Place) → Says (whole ds .records) n p → readAt k p (mapped ds .versions) ≡ readOf n k (whole ds)
     go p (idle x) = not-both (runsIn n (whole ds)) u x
-    go p (busy s rows x v keys w) =
+    go p (busy s rows x v keys w b) =
         rw (whole-base ds)
-        (current-is (mapped ds) (whole ds .low) (whole ds .records) (agree l) (sane (whole ds) (sound l)) n k s rows i x v keys (w k i))
+        (current-is (mapped ds) (whole ds .low) (whole ds .records) (agree l) (sane (whole ds) (sound l)) n k s rows i x v (w k))

@@ -41,6 +41,7 @@ pub record MapLent (x : MapCells) (cs : Columns) : Type 0 where
   pub rows : x .head .used ≤ length (cs .keys)
   pub times-paired : length (cs .keys) ≡ length (cs .times)
   pub values-paired : length (cs .keys) ≡ length (cs .values)
+  pub marks-paired : length (cs .keys) ≡ length (cs .marks)
   pub held : MapHolds x cs
 
 -- a deed by its contract: begin, update and abort write no column

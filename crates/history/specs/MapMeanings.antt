@@ -94,5 +94,5 @@ module _ {ds : List Deed} (ok : Lawful ds) where
     where
       go : runsIn n (whole ds) ≡ true → (p : Place) → Says (whole ds .records) n p → length (rowsAt p) ≡ length (keysWritten (of n (whole ds .records)))
       go u p (idle x) = not-both (runsIn n (whole ds)) u x
-      go u p (busy s rows x v keys w) =
+      go u p (busy s rows x v keys w b) =
           rw (firsts-written rows (of n (whole ds .records)) keys) (sym (length-keys rows) ∙ ap length keys)

@@ -48,7 +48,15 @@ row-held n a b e i l =
 module _ (x : MapCells) (w : Shaped (x .head) (lengths (x .columns))) (cs : Columns) (l : MapLent x cs) where
   pub map-lent-shaped : Shaped (x .head) (lengths cs)
   map-lent-shaped =
-      record { limit = w .limit; rows = l .rows; times = l .times-paired; values = l .values-paired; numbered = w .numbered; formed = w .formed }
+      record {
+        limit = w .limit;
+        rows = l .rows;
+        times = l .times-paired;
+        values = l .values-paired;
+        marks = l .marks-paired;
+        numbered = w .numbered;
+        formed = w .formed;
+      }
 
   pub map-lent-passes : isShaped (x .head) (lengths cs) ≡ true
   map-lent-passes = shape-passes (x .head) (lengths cs) map-lent-shaped
@@ -80,16 +88,28 @@ accepted-deed room (Did (Commit n t)) m e = fitting (mapRefusal (Commit n t) m) 
 accepted-deed room (Checkpointed T) m e = e
 
 -- a good shape has paired columns with the used rows
-paired : (h : MapHead) (l : Lengths) → isShaped h l ≡ true → (h .used ≤ l .keys) × (l .keys ≡ l .times) × (l .keys ≡ l .values)
+record Paired (h : MapHead) (l : Lengths) : Type 0 where
+  rows : h .used ≤ l .keys
+  times : l .keys ≡ l .times
+  values : l .keys ≡ l .values
+  marks : l .keys ≡ l .marks
+
+paired : (h : MapHead) (l : Lengths) → isShaped h l ≡ true → Paired h l
 paired h l e =
     let rest = not (eqb (h .next) 0) && slotsShaped (h .slots) in
-    let pairs = eqb (l .keys) (l .times) && (eqb (l .keys) (l .values) && rest) in
-    let f = and-right (leb (h .used) mostVersions) (leb (h .used) (l .keys) && pairs) e in
-    let g = and-right (leb (h .used) (l .keys)) pairs f in (
-      leb-true _ _ (and-left (leb (h .used) (l .keys)) pairs f),
-      eqb-true _ _ (and-left (eqb (l .keys) (l .times)) (eqb (l .keys) (l .values) && rest) g),
-      eqb-true _ _ (and-left (eqb (l .keys) (l .values)) rest (and-right (eqb (l .keys) (l .times)) (eqb (l .keys) (l .values) && rest) g)),
-    )
+    let third = eqb (l .keys) (l .marks) && rest in
+    let second = eqb (l .keys) (l .values) && third in
+    let first = eqb (l .keys) (l .times) && second in
+    let f = and-right (leb (h .used) mostVersions) (leb (h .used) (l .keys) && first) e in
+    let g = and-right (leb (h .used) (l .keys)) first f in
+    let i = and-right (eqb (l .keys) (l .times)) second g in
+    let j = and-right (eqb (l .keys) (l .values)) third i in
+    record {
+      rows = leb-true _ _ (and-left (leb (h .used) (l .keys)) first f);
+      times = eqb-true _ _ (and-left (eqb (l .keys) (l .times)) second g);
+      values = eqb-true _ _ (and-left (eqb (l .keys) (l .values)) third i);
+      marks = eqb-true _ _ (and-left (eqb (l .keys) (l .marks)) rest j);
+    }
 
 -- a number 0 was given to a good shape
 shape-accepted : (h : MapHead) (cs : Columns) (f : MapStore → ℕ) → shapedNumber h cs f ≡ 0 → isShaped h (lengths cs) ≡ true
@@ -109,7 +129,7 @@ module _ {ds : List Deed} {x : MapCells} (m : MapMeant ds x) (cs : Columns)
   lent =
       let b = shape-accepted (x .head) cs (answerTo d (roomOf (length (cs .keys)))) z in
       let p = paired (x .head) (lengths cs) b in
-      record { rows = p .0; times-paired = p .1; values-paired = p .2; held = h b }
+      record { rows = p .rows; times-paired = p .times; values-paired = p .values; marks-paired = p .marks; held = h b }
 
   good : Shaped (x .head) (lengths cs)
   good = map-lent-shaped x (m .shaped) cs lent
@@ -186,4 +206,4 @@ map-meant (did r d cs h a head cs' w) =
 pub map-own : {ds : List Deed} {x : MapCells} → MapReached ds x → MapLent x (x .columns)
 map-own r =
     let s = map-meant r .shaped in
-    record { rows = s .rows; times-paired = s .times; values-paired = s .values; held = refl }
+    record { rows = s .rows; times-paired = s .times; values-paired = s .values; marks-paired = s .marks; held = refl }

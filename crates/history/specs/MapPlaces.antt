@@ -8,54 +8,72 @@ use lib.Dec.{eqb, ltb}
 use lib.ListN.{length}
 use borrow.Author.Tests.{eqb-true, eqb-false, eq-eqb, ne-eqb, ltb-false, le-ltb, not-true}
 use Rattle.rules.specs.declared.Record.{Record}
-use Rattle.rules.specs.declared.Value.the-variants.{Present}
+use Rattle.rules.specs.declared.Effect.{Effect}
+use Rattle.rules.specs.Effects.{isAdd}
+use Rattle.rules.specs.EffectLaws.{add-joined}
 use Rattle.rules.specs.Kinds.{isUpdate}
 use Rattle.rules.specs.Transactions.{wrote, keysWritten}
 use Rattle.rules.specs.Lists.{among}
-use Rattle.rules.specs.Bools.{split, and-left, and-right, or-none-left, or-none-right, not-both, or-false}
+use Rattle.rules.specs.Bools.{split, and-left, and-right, or-right, or-none-left, or-none-right, not-both, or-false, and-false}
 use Rattle.rules.specs.Running.{wrote-among}
-use Rattle.slot.specs.Places.{Note, noteKeys, Place, free, taken, hasKey, runningValue, reset, note, placeOf, openIn, amend, occupied, holds}
+use Rattle.slot.specs.Places.{Note, noteKeys, Place, free, taken, hasKey, joinedIn, note, placeOf, openIn, amend, occupied, holds}
 use Rattle.map_store.specs.Meaning.{firsts}
-use Rattle.history.specs.MapVersions.{or-absent, first-has}
+use Rattle.history.specs.MapVersions.{unexcused}
 
 -- a key stands in the rows exactly if it is among their keys
 pub has-among : (k : ℕ) (rows : List Note) → hasKey k rows ≡ among k (noteKeys rows)
 has-among k [] = refl
 has-among k (r ∷ rows) = rw (has-among k rows)
 
--- a row that gets another value keeps its key
-reset-keys : (k v : ℕ) (rows : List Note) → noteKeys (reset k v rows) ≡ noteKeys rows
-reset-keys k v [] = refl
-reset-keys k v (r ∷ rows) =
-    split (hasKey k rows) (λ h. rw (h, reset-keys k v rows)) (λ h. rw h (split (eqb (r .key) k) (λ e. rw (e, eqb-true (r .key) k e)) (λ e. rw e)))
+-- a row that takes up an effect keeps its key
+joined-keys : (k : ℕ) (e : Effect) (rows : List Note) → noteKeys (joinedIn k e rows) ≡ noteKeys rows
+joined-keys k e [] = refl
+joined-keys k e (r ∷ rows) =
+    split (hasKey k rows) (λ h. rw (h, joined-keys k e rows)) (λ h. rw h (split (eqb (r .key) k) (λ q. rw (q, eqb-true (r .key) k q)) (λ q. rw q)))
 
--- the running values after a reset
-reset-first : (j k v : ℕ) (rows : List Note) → hasKey k rows ≡ true → runningValue j (reset k v rows) ≡ cond (eqb k j) (Present v) (runningValue j rows)
-reset-first j k v [] h = absurd (false≢true h)
-reset-first j k v (r ∷ rows) h =
-    split (hasKey k rows)
-    (λ x. rw (x, reset-first j k v rows x) (split (eqb k j) (λ e. rw e) (λ e. rw e)))
-    (λ x.
-    let y : eqb (r .key) k ≡ true = rw (x, or-false (eqb (r .key) k)) at h in
-    rw (x, y)
-    (split (eqb k j)
-    (λ e. let x2 : hasKey j rows ≡ false = rw (eqb-true k j e) at x in rw (e, first-has j rows x2))
-    (λ e. rw (eqb-true (r .key) k y, e))))
+joined-has : (j k : ℕ) (e : Effect) (rows : List Note) → hasKey j (joinedIn k e rows) ≡ hasKey j rows
+joined-has j k e rows = has-among j (joinedIn k e rows) ∙ ap (among j) (joined-keys k e rows) ∙ sym (has-among j rows)
 
 -- the keys after a note
-pub note-keys : (k v : ℕ) (rows : List Note) → noteKeys (note k v rows) ≡ cond (hasKey k rows) (noteKeys rows) (k ∷ noteKeys rows)
-note-keys k v rows = split (hasKey k rows) (λ h. rw (h, reset-keys k v rows)) (λ h. rw h)
+pub note-keys : (k : ℕ) (e : Effect) (rows : List Note) → noteKeys (note k e rows) ≡ cond (hasKey k rows) (noteKeys rows) (k ∷ noteKeys rows)
+note-keys k e rows = split (hasKey k rows) (λ h. rw (h, joined-keys k e rows)) (λ h. rw h)
 
--- the running values after a note
-pub note-first : (j k v : ℕ) (rows : List Note) → runningValue j (note k v rows) ≡ cond (eqb k j) (Present v) (runningValue j rows)
-note-first j k v rows =
+-- the row of k adds, or there is none: of one key twice the oldest row counts
+abbrev pub addsAt : ℕ → List Note → Bool
+addsAt k [] = true
+addsAt k (r ∷ rows) = cond (hasKey k rows) (addsAt k rows) (cond (eqb (r .key) k) (isAdd (r .effect)) true)
+
+adds-none : (k : ℕ) (rows : List Note) → hasKey k rows ≡ false → addsAt k rows ≡ true
+adds-none k [] h = refl
+adds-none k (r ∷ rows) h = rw (or-none-right (eqb (r .key) k) (hasKey k rows) h, or-none-left (eqb (r .key) k) (hasKey k rows) h)
+
+adds-joined : (j k : ℕ) (e : Effect) (rows : List Note) → hasKey k rows ≡ true
+    → addsAt j (joinedIn k e rows) ≡ cond (eqb k j) (addsAt j rows && isAdd e) (addsAt j rows)
+adds-joined j k e [] h = absurd (false≢true h)
+adds-joined j k e (r ∷ rows) h =
     split (hasKey k rows)
-    (λ h. rw h (reset-first j k v rows h))
-    (λ h.
-    rw h
-    (split (eqb k j)
-    (λ e. let h2 : hasKey j rows ≡ false = rw (eqb-true k j e) at h in rw (e, first-has j rows h2))
-    (λ e. rw (e, or-absent (runningValue j rows)))))
+    (λ t.
+    split (hasKey j rows)
+    (λ u. rw (t, joined-has j k e rows, u) (adds-joined j k e rows t))
+    (λ u.
+    split (eqb k j)
+    (λ q. not-both (hasKey j rows) (rw (eqb-true k j q) at t) u)
+    (λ q. rw (t, joined-has j k e rows, u, q))))
+    (λ t.
+    let z = eqb-true (r .key) k (rw (t, or-false) at h) in
+    split (eqb k j)
+    (λ q. rw (← eqb-true k j q, t, z, eq-eqb k k refl, t, eq-eqb k k refl) (add-joined (r .effect) e))
+    (λ q. rw (t, z, eq-eqb k k refl, q)))
+
+-- whether rows add after a note
+pub adds-note : (j k : ℕ) (e : Effect) (rows : List Note) → addsAt j (note k e rows) ≡ cond (eqb k j) (addsAt j rows && isAdd e) (addsAt j rows)
+adds-note j k e rows =
+    split (hasKey k rows)
+    (λ t. rw t (adds-joined j k e rows t))
+    (λ t.
+    split (eqb k j)
+    (λ q. rw (← eqb-true k j q, t, eq-eqb k k refl, t, adds-none k rows t))
+    (λ q. split (hasKey j rows) (λ u. rw (t, u, q)) (λ u. rw (t, u, q, adds-none j rows u))))
 
 -- no key twice
 abbrev distinct : List ℕ → Bool
@@ -83,6 +101,34 @@ firsts-all (r ∷ rows) h =
 -- all rows count where they have the keys that a transaction wrote
 pub firsts-written : (rows : List Note) (own : List Record) → noteKeys rows ≡ keysWritten own → firsts rows ≡ rows
 firsts-written rows own e = firsts-all rows (rw e (keys-distinct own))
+
+-- each row adds exactly if a test of its key says so
+pub data Adds (adds : ℕ → Bool) : List Note → Type 0 where
+  none : Adds adds []
+  more : {r : Note} {rows : List Note} → isAdd (r .effect) ≡ adds (r .key) → Adds adds rows → Adds adds (r ∷ rows)
+
+adds-each : (adds : ℕ → Bool) (rows : List Note) → distinct (noteKeys rows) ≡ true → ((k : ℕ) → hasKey k rows ≡ true → addsAt k rows ≡ adds k) → Adds adds rows
+adds-each adds [] d h = none
+adds-each adds (r ∷ rows) d h =
+    let x = not-true (among (r .key) (noteKeys rows)) (and-left (not (among (r .key) (noteKeys rows))) (distinct (noteKeys rows)) d) in
+    let y : hasKey (r .key) rows ≡ false = has-among (r .key) rows ∙ x in
+    let z = eq-eqb (r .key) (r .key) refl in
+    more (rw (y, z) at (h (r .key) (rw z)))
+    (adds-each adds rows (and-right (not (among (r .key) (noteKeys rows))) (distinct (noteKeys rows)) d)
+    (λ k e. rw e at (h k (or-right (eqb (r .key) k) (hasKey k rows) e))))
+
+-- of rows with the keys that a transaction wrote each adds exactly if its key's row does
+pub adds-written : (adds : ℕ → Bool) (rows : List Note) (own : List Record) → noteKeys rows ≡ keysWritten own → ((k : ℕ) → addsAt k rows ≡ adds k) → Adds adds rows
+adds-written adds rows own e h = adds-each adds rows (rw e (keys-distinct own)) (λ k x. h k)
+
+-- and so which rows are not excused is told by the keys
+pub unexcused-keys : (test : ℕ → Bool) (k : ℕ) (adds : Bool) (rows : List Note) → Adds test rows → unexcused k adds rows ≡ (hasKey k rows && not (adds && test k))
+unexcused-keys test k adds [] none = refl
+unexcused-keys test k adds (r ∷ rows) (more e a) =
+    rw (e, unexcused-keys test k adds rows a)
+    (split (eqb (r .key) k)
+    (λ q. rw (q, eqb-true (r .key) k q) (split (not (adds && test k)) (λ x. rw x) (λ x. rw (x, and-false))))
+    (λ q. rw q))
 
 -- places
 abbrev pub isFree : Place → Bool

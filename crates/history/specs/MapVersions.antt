@@ -1,17 +1,20 @@
 -- The versions of the map store: what a commit adds to them and what a checkpoint keeps of them, read at a time. Assumes nothing.
 use mathlib.Core.Path.{_≡_, refl, ap, sym, _∙_}
-use mathlib.Core.Bool.{Bool, true, false, cond, not, _&&_, _||_, true≢false, false≢true}
+use mathlib.Core.Bool.{Bool, true, false, cond, not, _&&_, _||_, true≢false}
 use mathlib.Core.List.{List, [], _∷_}
 use Prim.Native.Nat.{ℕ, _<_, _≤_}
 use native.Mathlib.Omega.{arith}
 use lib.Dec.{eqb, leb, ltb}
 use lib.ListN.{length}
 use borrow.Author.Tests.{eqb-true, eq-eqb, leb-true, leb-false, ltb-true, ltb-false, le-leb, lt-leb, lt-ltb, le-ltb}
-use Rattle.rules.specs.Effects.{orElse}
+use Rattle.rules.specs.declared.Effect.{Effect}
+use Rattle.rules.specs.declared.Effect.the-variants.{Assign, Add}
+use Rattle.rules.specs.Effects.{isAdd, markOf}
+use Rattle.rules.specs.EffectLaws.{applied-shown}
 use Rattle.rules.specs.declared.Value.{Value}
-use Rattle.rules.specs.declared.Value.the-variants.{Absent, Present}
-use Rattle.rules.specs.Bools.{split, and-left, and-right, or-none-left, or-none-right, and-false, or-false}
-use Rattle.slot.specs.Places.{Note, hasKey, runningValue}
+use Rattle.rules.specs.Bools.{split, and-left, and-right, and-false}
+use Rattle.slot.specs.Places.{Note, hasKey, makes}
+use Rattle.slot.specs.RowLaws.{makes-none}
 use Rattle.versions.specs.declared.Version.{Version}
 use Rattle.versions.specs.Versions.{Best, nothing, at, better, newestStep, newest, shown, later, isRow, thin}
 use Rattle.map_store.specs.Meaning.{stamp}
@@ -48,66 +51,73 @@ newest-stands k T t m (v ∷ vs) h l j =
       le-leb (v .time) t (omega arith),
     )
 
--- nothing behind a value
-pub or-absent : (v : Value) → orElse v Absent ≡ v
-or-absent Absent = refl
-or-absent (Present v) = refl
-
--- a key without a row has no running value
-pub first-has : (k : ℕ) (rows : List Note) → hasKey k rows ≡ false → runningValue k rows ≡ Absent
-first-has k [] h = refl
-first-has k (r ∷ rows) h =
-    rw (first-has k rows (or-none-right (eqb (r .key) k) (hasKey k rows) h), or-none-left (eqb (r .key) k) (hasKey k rows) h)
-
--- a key with a row has one
-pub has-first : (k : ℕ) (rows : List Note) (w : Value) → hasKey k rows ≡ true → orElse (runningValue k rows) w ≡ runningValue k rows
-has-first k [] w h = absurd (false≢true h)
-has-first k (r ∷ rows) w h =
-    split (hasKey k rows)
-    (λ x. rw (has-first k rows (cond (eqb (r .key) k) (Present (r .value)) Absent) x) (has-first k rows w x))
-    (λ x. let e : eqb (r .key) k ≡ true = rw (x, or-false (eqb (r .key) k)) at h in rw (first-has k rows x, e))
-
--- what a search finds among a commit's versions
-record Stamped (k t u : ℕ) (rows : List Note) (vs : List Version) : Type 0 where
-  val : shown (newest k t (stamp u rows vs)) ≡ orElse (runningValue k rows) (versions.valueAt k t vs)
-  over : better (newest k t (stamp u rows vs)) u ≡ not (hasKey k rows)
+-- what a search finds among a commit's versions, each with its row's effect on what a key held
+record Stamped (held : ℕ → Value) (k t u : ℕ) (rows : List Note) (vs : List Version) : Type 0 where
+  val : shown (newest k t (stamp held u rows vs)) ≡ cond (hasKey k rows) (makes k rows (held k)) (versions.valueAt k t vs)
+  over : better (newest k t (stamp held u rows vs)) u ≡ not (hasKey k rows)
 
 -- and that it finds it
-newest-stamp : (k t u m : ℕ) (rows : List Note) (vs : List Version) → ordered m vs ≡ true → m < u → u ≤ t → Stamped k t u rows vs
-newest-stamp k t u m [] vs h l j = record { val = refl; over = better-ordered k t m u vs h l }
-newest-stamp k t u m (r ∷ rows) vs h l j =
-    let i = newest-stamp k t u m rows vs h l j in
+newest-stamp : (held : ℕ → Value) (k t u m : ℕ) (rows : List Note) (vs : List Version) → ordered m vs ≡ true → m < u → u ≤ t → Stamped held k t u rows vs
+newest-stamp held k t u m [] vs h l j = record { val = refl; over = better-ordered k t m u vs h l }
+newest-stamp held k t u m (r ∷ rows) vs h l j =
+    let i = newest-stamp held k t u m rows vs h l j in
     split (eqb (r .key) k)
     (λ e.
     split (hasKey k rows)
+    (λ x. record { val = rw (e, le-leb u t j, i .over, x) (rw x at (i .val)); over = rw (e, le-leb u t j, i .over, x) (rw x at (i .over)) })
     (λ x. record {
-      val = rw (e, le-leb u t j, i .over, x, i .val, has-first k rows (Present (r .value)) x);
-      over = rw
-          (e, le-leb u t j, i .over, x) (i .over ∙ rw x);
-    })
-    (λ x. record { val = rw (e, le-leb u t j, i .over, x, first-has k rows x); over = rw (e, le-leb u t j, i .over, x, le-ltb u u (omega arith)) }))
-    (λ e. record { val = rw (e, or-absent (runningValue k rows)) (i .val); over = rw e (i .over) })
+      val = rw (e, le-leb u t j, i .over, x, eqb-true (r .key) k e) (applied-shown (r .effect) (held k));
+      over = rw (e, le-leb u t j, i .over, x, le-ltb u u (omega arith));
+    }))
+    (λ e.
+    split (hasKey k rows)
+    (λ x. record { val = rw (e, x) (rw x at (i .val)); over = rw (e, x) (rw x at (i .over)) })
+    (λ x. record { val = rw (e, x) (rw x at (i .val)); over = rw (e, x) (rw x at (i .over)) }))
 
--- a commit's versions, all later than what stands
+-- a commit's versions, all later than what stands: each has its row's effect on the newest value of its key
 pub value-stamp : (k t u m : ℕ) (rows : List Note) (vs : List Version) → ordered m vs ≡ true → m < u
-    → versions.valueAt k t (stamp u rows vs) ≡ cond (leb u t) (orElse (runningValue k rows) (versions.valueAt k t vs)) (versions.valueAt k t vs)
+    → versions.valueAt k t (stamp (λ j. versions.valueAt j m vs) u rows vs) ≡ cond (leb u t) (makes k rows (versions.valueAt k t vs)) (versions.valueAt k t vs)
 value-stamp k t u m rows vs h l =
-    split (leb u t) (λ e. rw e (newest-stamp k t u m rows vs h l (leb-true u t e) .val)) (λ e. rw e (none-before rows (leb-false u t e)))
+    split (leb u t)
+    (λ e.
+    let y = leb-true u t e in
+    let same : versions.valueAt k m vs ≡ versions.valueAt k t vs = sym (ap shown (newest-stands k m t m vs h (omega arith) (omega arith))) in
+    rw e
+    (newest-stamp (λ j. versions.valueAt j m vs) k t u m rows vs h l y .val
+    ∙ rw same (split (hasKey k rows) (λ x. rw x) (λ x. rw x (sym (makes-none k rows (versions.valueAt k t vs) x))))))
+    (λ e. rw e (none-before rows (leb-false u t e)))
   where
-    none-before : (rows : List Note) → t < u → versions.valueAt k t (stamp u rows vs) ≡ versions.valueAt k t vs
+    held : ℕ → Value
+    held j = versions.valueAt j m vs
+
+    none-before : (rows : List Note) → t < u → versions.valueAt k t (stamp held u rows vs) ≡ versions.valueAt k t vs
     none-before [] z = refl
     none-before (r ∷ rows) z = rw (lt-leb u t z, and-false, none-before rows z)
 
+-- some row of k is not excused where adds are
+abbrev pub unexcused : ℕ → Bool → List Note → Bool
+unexcused k adds [] = false
+unexcused k adds (r ∷ rows) = (eqb (r .key) k && not (adds && isAdd (r .effect))) || unexcused k adds rows
+
+-- a version is marked exactly if its row adds
+marked-adds : (e : Effect) → not (eqb (markOf e) 0) ≡ isAdd e
+marked-adds (Assign v) = refl
+marked-adds (Add d) = refl
+
 -- later versions after a commit
-pub later-stamp : (s k u : ℕ) (rows : List Note) (vs : List Version) → later s k (stamp u rows vs) ≡ ((ltb s u && hasKey k rows) || later s k vs)
-later-stamp s k u [] vs = rw and-false
-later-stamp s k u (r ∷ rows) vs =
-    rw (later-stamp s k u rows vs) (split (ltb s u) (λ e. rw e (split (eqb (r .key) k) (λ x. rw x) (λ x. rw x))) (λ e. rw (e, and-false)))
+pub later-stamp : (held : ℕ → Value) (s k : ℕ) (adds : Bool) (u : ℕ) (rows : List Note) (vs : List Version)
+    → later s k adds (stamp held u rows vs) ≡ ((ltb s u && unexcused k adds rows) || later s k adds vs)
+later-stamp held s k adds u [] vs = rw and-false
+later-stamp held s k adds u (r ∷ rows) vs =
+    rw (later-stamp held s k adds u rows vs, marked-adds (r .effect))
+    (split (ltb s u)
+    (λ e. rw e (split (eqb (r .key) k && not (adds && isAdd (r .effect))) (λ x. rw x) (λ x. rw x)))
+    (λ e. rw (e, and-false)))
 
 -- a commit's versions come last
-pub ordered-stamp : (u m : ℕ) (rows : List Note) (vs : List Version) → ordered m vs ≡ true → m ≤ u → ordered u (stamp u rows vs) ≡ true
-ordered-stamp u m [] vs h l = ordered-up m u vs l h
-ordered-stamp u m (r ∷ rows) vs h l = rw (le-leb u u (omega arith)) (ordered-stamp u m rows vs h l)
+pub ordered-stamp : (held : ℕ → Value) (u m : ℕ) (rows : List Note) (vs : List Version) → ordered m vs ≡ true → m ≤ u → ordered u (stamp held u rows vs) ≡ true
+ordered-stamp held u m [] vs h l = ordered-up m u vs l h
+ordered-stamp held u m (r ∷ rows) vs h l = rw (le-leb u u (omega arith)) (ordered-stamp held u m rows vs h l)
 
 -- rule 3.10: what a checkpoint keeps
 pub ordered-thin : (T : ℕ) (w : List Version) (m : ℕ) (vs : List Version) → ordered m vs ≡ true → ordered m (thin T w vs) ≡ true
@@ -119,10 +129,10 @@ ordered-thin T w m (v ∷ vs) h =
     (λ e. rw e (ordered-up (v .time) m (thin T w vs) (leb-true (v .time) m a) b))
 
 -- no version later than T goes
-pub later-thin : (T s k : ℕ) (w vs : List Version) → T ≤ s → later s k (thin T w vs) ≡ later s k vs
-later-thin T s k w [] l = refl
-later-thin T s k w (v ∷ vs) l =
-    let i = later-thin T s k w vs l in
+pub later-thin : (T s k : ℕ) (adds : Bool) (w vs : List Version) → T ≤ s → later s k adds (thin T w vs) ≡ later s k adds vs
+later-thin T s k adds w [] l = refl
+later-thin T s k adds w (v ∷ vs) l =
+    let i = later-thin T s k adds w vs l in
     split (ltb T (v .time))
     (λ e. rw (e, i))
     (λ e.

@@ -14,7 +14,8 @@ use Rattle.record.specs.Bytes.{appended}
 use Rattle.answer.specs.Reply.{Reply, accepted, told, after}
 use Rattle.slot.specs.Slots.{slotOf, firstSlot, lowestFree}
 use Rattle.slot.specs.Places.{placesOf}
-use Rattle.versions.specs.Versions.{columns, versionsOf}
+use Rattle.versions.specs.Versions.{columns}
+use Rattle.map_store.specs.Meaning.{newestValue}
 use Rattle.journal_store.specs.Shape.{emptyHead}
 use Rattle.journal_store.specs.Heads.{grown}
 use Rattle.journal_store.specs.Contracts.{number, Wrote, lookupDecided, shapedReply}
@@ -54,7 +55,7 @@ journalAfter (c ∷ cs) = calledOn c (journalAfter cs)
 abbrev noted : Call → MapCells → MapCells
 noted c x =
     after (contract.number c (x .head) (x .columns))
-    (record { head = headAfter c (x .head) (versionsOf (x .head .used) (x .columns)); columns = x .columns })
+    (record { head = headAfter c (x .head); columns = x .columns })
     x
 
 -- what a call makes of the cells of a map store
@@ -66,8 +67,8 @@ versioned (Commit n t) x =
     let rows = rowsIn (x .head .slots) (slotOf (x .head .slots) n) in
     after (contract.number (Commit n t) (x .head) (x .columns))
     (record {
-      head = headAfter (Commit n t) (x .head) (versionsOf (x .head .used) (x .columns));
-      columns = stamped (x .head .used) t rows (x .columns);
+      head = headAfter (Commit n t) (x .head);
+      columns = stamped (newestValue (mapMeaningOf x)) (x .head .used) t rows (x .columns);
     })
     x
 
@@ -89,7 +90,7 @@ versioned-by n t x =
 
 -- room for 8 versions
 abbrev mapAfter : List Call → MapCells
-mapAfter [] = record { head = map.emptyHead; columns = columns (replicate 8 0) (replicate 8 0) (replicate 8 0) }
+mapAfter [] = record { head = map.emptyHead; columns = columns (replicate 8 0) (replicate 8 0) (replicate 8 0) (replicate 8 0) }
 mapAfter (c ∷ cs) = versioned c (mapAfter cs)
 
 -- commits at 1 to 6: x=0; y=0; x+4 and y=0; x+1; x-3; x+2. The newest call first
@@ -149,3 +150,23 @@ given (e ∷ es) = (e .gives, e .gives) ∷ given es
 pub marked : answers table ≡ given table
 unfolding firstSlot lowestFree placesOf
 marked = refl
+
+-- two writers of one counter: both begin at 1, add 3 and 4, and commit at 2 and 3; the third begins at 1 too, assigns, and is refused
+abbrev shared : List Call
+shared =
+    Commit 4 4 ∷ Commit 3 3 ∷ Commit 2 2 ∷ Update 4 1 (Assign 9) ∷ Update 3 1 (Add 4) ∷ Update 2 1 (Add 3) ∷ Begin 1 ∷ Begin 1 ∷ Begin 1
+    ∷ Commit 1 1 ∷ Update 1 1 (Assign 10) ∷ Begin 0
+    ∷ []
+
+abbrev pub counter : List Example
+counter =
+    record { calls = shared; key = 1; time = 1; gives = accepted (Present 10) }
+    ∷ record { calls = shared; key = 1; time = 2; gives = accepted (Present 13) }
+    ∷ record { calls = shared; key = 1; time = 3; gives = accepted (Present 17) }
+    ∷ record { calls = shared; key = 1; time = 4; gives = record { number = 5; value = Absent } }
+    ∷ []
+
+-- both totals stand in both stores
+pub shared-counter : answers counter ≡ given counter
+unfolding firstSlot lowestFree placesOf
+shared-counter = refl

@@ -1,12 +1,14 @@
 -- Section 6 from the history alone, but for shape: the number that a deed gets, in the order of its tests, and what an accepted one gives. It shares
 -- with the stores that no room (12) is the last test. Assumes nothing.
-use mathlib.Core.Bool.{Bool, false, cond, not, _&&_, _||_}
+use mathlib.Core.Bool.{Bool, true, false, cond, not, _&&_, _||_}
 use mathlib.Core.List.{List, [], _∷_}
 use Prim.Native.Nat.{ℕ, _+_}
 use lib.Dec.{eqb, leb, ltb}
 use lib.ListN.{length}
 use Rattle.rules.specs.Limits.{mostRunning, mostKeys, numbersEnd}
 use Rattle.rules.specs.Lists.{among}
+use Rattle.rules.specs.declared.Effect.{Effect}
+use Rattle.rules.specs.declared.Effect.the-variants.{Assign, Add}
 use Rattle.rules.specs.declared.Value.{Value}
 use Rattle.rules.specs.declared.Value.the-variants.{Absent, Present}
 use Rattle.rules.specs.Calls.{Call, Begin, Update, Abort, Commit, withRoom}
@@ -22,9 +24,19 @@ abbrev pub distinctKeys : List Change → List ℕ
 distinctKeys [] = []
 distinctKeys (c ∷ older) = cond (changes (c .key) older) (distinctKeys older) (c .key ∷ distinctKeys older)
 
--- two transactions, by their changes, met on k: both changed it
+-- a change that adds
+abbrev pub increases : Effect → Bool
+increases (Assign v) = false
+increases (Add d) = true
+
+-- of some changes those of k are all adds
+abbrev pub onlyAdds : ℕ → List Change → Bool
+onlyAdds k [] = true
+onlyAdds k (c ∷ older) = cond (eqb (c .key) k) (increases (c .effect)) true && onlyAdds k older
+
+-- two transactions, by their changes, met on k: both changed it, and it is not so that both only added to it
 abbrev pub meet : ℕ → List Change → List Change → Bool
-meet k mine theirs = changes k mine && changes k theirs
+meet k mine theirs = (changes k mine && changes k theirs) && not (onlyAdds k mine && onlyAdds k theirs)
 
 -- the changes of a transaction that committed later than s pass a test
 abbrev pub changedAfter : List Commitment → ℕ → (List Change → Bool) → Bool
@@ -35,6 +47,10 @@ changedAfter (c ∷ older) s test = (ltb s (c .time) && test (c .changes)) || ch
 abbrev pub conflicts : List Commitment → ℕ → List Change → List Change → Bool
 conflicts cs s mine [] = false
 conflicts cs s mine (c ∷ older) = changedAfter cs s (meet (c .key) mine) || conflicts cs s mine older
+
+-- a commit of running transaction n conflicts, if these transactions have committed
+abbrev pub conflictsWith : List Commitment → ℕ → List Runner → Bool
+conflictsWith cs n rs = conflicts cs (snapshotOf n rs) (changesOf n rs) (changesOf n rs)
 
 -- t is above a running snapshot
 abbrev pub holdsBack : ℕ → List Runner → Bool
@@ -60,8 +76,7 @@ refusalIn (Did (Update n k e)) h =
     unknownOr n h (cond (eqb k 0) 3 (cond (not (changes k mine || ltb (length (distinctKeys mine)) mostKeys)) 8 0))
 refusalIn (Did (Abort n)) h = unknownOr n h 0
 refusalIn (Did (Commit n t)) h =
-    let mine = changesOf n (h .runners) in
-    unknownOr n h (cond (leb t (lastIn h)) 10 (cond (conflicts (h .commitments) (snapshotOf n (h .runners)) mine mine) 11 0))
+    unknownOr n h (cond (leb t (lastIn h)) 10 (cond (conflictsWith (h .commitments) n (h .runners)) 11 0))
 refusalIn (Checkpointed t) h = timeRefused t h (cond (holdsBack t (h .runners)) 9 0)
 
 -- what an accepted call gives: begin its number, the others nothing

@@ -1,23 +1,23 @@
 -- The whole journal of lawful deeds refuses what their history refuses. Assumes nothing.
 use mathlib.Core.Path.{_≡_, refl, sym, _∙_, subst}
-use mathlib.Core.Bool.{Bool, true, false, false≢true}
+use mathlib.Core.Bool.{Bool, true, false, not, _&&_, false≢true}
 use mathlib.Core.List.{List, [], _∷_}
 use Prim.Native.Nat.{ℕ}
 use lib.Dec.{eqb, ltb}
 use lib.ListN.{length}
 use borrow.Author.Tests.{eqb-true, eq-eqb, ltb-false, le-ltb}
 use Rattle.rules.specs.declared.Record.{Record}
-use Rattle.rules.specs.Kinds.{isUpdate, isCommit}
+use Rattle.rules.specs.Kinds.{isAssign, isUpdate, isCommit}
 use Rattle.rules.specs.Transactions.{any, of, runs, snapshot, wrote, keysWritten}
 use Rattle.rules.specs.Lists.{among}
-use Rattle.rules.specs.Conflicts.{metOn, touched, clashes}
+use Rattle.rules.specs.Conflicts.{onlyAdded, metOn, touched, clashes}
 use Rattle.rules.specs.Meeting.{ReadsUpdates, test-skip, met-reads}
 use Rattle.rules.specs.Checkpoints.{held}
 use Rattle.rules.specs.Calls.{Store, lastOf, runsIn, snapshotIn, heldIn, Begin, Update, Abort, Commit}
 use Rattle.rules.specs.Bools.{split, or-right, or-none, or-none-left, or-none-right, not-both}
 use Rattle.rules.specs.Running.{touched-open}
 use Rattle.history.specs.History.{Change, Runner, History, Deed, Did, Checkpointed, numbers, snapshotOf, changes}
-use Rattle.history.specs.Refusals.{anyOf, distinctKeys, meet, changedAfter, conflicts, holdsBack, lastIn, refusalIn}
+use Rattle.history.specs.Refusals.{anyOf, distinctKeys, onlyAdds, meet, changedAfter, conflicts, holdsBack, lastIn, refusalIn}
 use Rattle.history.specs.Good.{Good, none, more}
 use Rattle.history.specs.GoodLaws.{commit-writes, unended, begun-of}
 use Rattle.history.specs.KeptAlike.{not-held}
@@ -49,9 +49,26 @@ module _ (s : ℕ) (test : List Record → Bool) (reads : ReadsUpdates test) (to
       (λ c. rw (c, test-skip test reads r (commit-writes r c) (r .transaction) rs, i, same (of (r .transaction) rs)))
       (λ c. rw (c, i))
 
+-- what a transaction only added to
+added-told : (k : ℕ) (own : List Record) → onlyAdded k own ≡ onlyAdds k (changesIn own)
+added-told k [] = refl
+added-told k (r ∷ own) =
+    split (isAssign r)
+    (λ a. split (eqb (r .key) k) (λ e. rw (a, e)) (λ e. rw (a, e) (added-told k own)))
+    (λ a.
+    split (isUpdate r)
+    (λ u. split (eqb (r .key) k) (λ e. rw (u, a, e) (added-told k own)) (λ e. rw (u, a, e) (added-told k own)))
+    (λ u. rw (u, a) (added-told k own)))
+
+and-assoc : (a b c : Bool) → (a && (b && c)) ≡ ((a && b) && c)
+and-assoc true b c = refl
+and-assoc false b c = refl
+
 -- whether two transactions met
 met-told : (k : ℕ) (mine own : List Record) → metOn k mine own ≡ meet k (changesIn mine) (changesIn own)
-met-told k mine own = rw (wrote-told k mine, wrote-told k own)
+met-told k mine own =
+    rw (wrote-told k mine, wrote-told k own, added-told k mine, added-told k own)
+    (and-assoc (changes k (changesIn mine)) (changes k (changesIn own)) (not (onlyAdds k (changesIn mine) && onlyAdds k (changesIn own))))
 
 conflict-told : (s : ℕ) {low : ℕ} {rs : List Record} → Good low rs → (mine own : List Record)
     → any (clashes rs s mine) own ≡ conflicts (commitmentsIn rs) s (changesIn mine) (changesIn own)

@@ -1,15 +1,16 @@
 -- The demands, for a reader: each theorem with its whole signature; the proofs are in the files that are named. What has to be believed stands in
--- History, Refusals and Lawful (what the user's words mean), Cells and MapCells (what a sequence of calls is), withoutCheckpoints (Silence), the contracts
--- that these cite, and what the history shares with the rules: applied, listed, among, withRoom and the limits. Assumes nothing.
+-- History, Refusals, Adders and Lawful (what the user's words mean), Cells and MapCells (what a sequence of calls is), withoutCheckpoints (Silence), the contracts
+-- that these cite, and what the history shares with the rules: applied, orZero, listed, rowValue, among, withRoom and the limits. Assumes nothing.
 use mathlib.Core.Path.{_≡_}
-use mathlib.Core.Bool.{true}
-use mathlib.Core.List.{List, [], _∷_}
+use mathlib.Core.Bool.{true, false, _&&_}
+use mathlib.Core.List.{List, [], _∷_, _++_}
 use mathlib.Core.Logic.{_≢_}
-use Prim.Native.Nat.{ℕ, _*_, _≤_}
+use Prim.Native.Nat.{ℕ, _+_, _*_, _<_, _≤_}
 use lib.ListN.{length, drop}
 use Rattle.rules.specs.declared.Value.the-variants.{Absent, Present}
 use Rattle.rules.specs.declared.Effect.the-variants.{Assign}
 use Rattle.rules.specs.Kinds.{recordBytes}
+use Rattle.rules.specs.Effects.{orZero}
 use Rattle.rules.specs.Values.{rowValue}
 use Rattle.rules.specs.Lists.{among}
 use Rattle.rules.specs.Calls.{Call, Update, Abort, Commit, withRoom}
@@ -21,8 +22,9 @@ use Rattle.journal_store.specs.Contracts.{Wrote, readDecided, lookupDecided, sh
 use Rattle.versions.specs.Versions.{Columns}
 use Rattle.map_store.specs.declared.MapHead.{MapHead}
 use Rattle.map_store.specs.Contracts.{readReply, lookupReply, ListedAt}
-use Rattle.history.specs.History.{Deed, Did, Checkpointed, numbers, history, restarted, valueIn, reads, listIn}
-use Rattle.history.specs.Refusals.{lastIn, givesIn, deedGives, numberIn, mapNumberIn, lookupNumber, readNumber, timeRefused, refusalIn}
+use Rattle.history.specs.History.{Commitment, Deed, Did, Checkpointed, numbers, changesOf, snapshotOf, history, restarted, valueIn, reads, listIn, changes}
+use Rattle.history.specs.Refusals.{onlyAdds, conflictsWith, lastIn, givesIn, deedGives, numberIn, mapNumberIn, lookupNumber, readNumber, timeRefused, refusalIn}
+use Rattle.history.specs.Adders.{total, ShareCounters, Raises, raisedBy, writtenBetween, Cause}
 use Rattle.history.specs.Lawful.{Lawful}
 use Rattle.history.specs.Cells.{Cells, end, Lent, Shows, Registers, Cut, lost, counting, Reached}
 use Rattle.history.specs.MapCells.{MapCells, MapLent, Does, MapReached, Given}
@@ -33,6 +35,7 @@ use Rattle.history.specs.Restarts as restarts
 use Rattle.history.specs.Endings as endings
 use Rattle.history.specs.Silence as silence
 use Rattle.history.specs.Corollaries as corollaries
+use Rattle.history.specs.Counters as counters
 use Rattle.map_store.specs.Shape as shape
 use Rattle.journal_store.specs.Contracts as store
 
@@ -274,6 +277,115 @@ pub commit-never-12 : (bytes : ℕ) {ds : List Deed} {since : ℕ} {x : Cells} �
     → Lent x (end x) keys values journal → length journal ≡ bytes → (n t : ℕ) (a : Reply) (head : Head) (journal' : List ℕ)
     → Wrote (Commit n t) (x .head) keys values journal a head journal' → a .number ≢ 12
 commit-never-12 = endings.commit-never-12
+
+-- TWO WRITERS, ONE COUNTER. A commit is refused with 11 because of a transaction that committed later than its snapshot and met it on a key: both changed it,
+-- and not both by adds alone (meet). So a transaction with which it shares counters alone is never the cause.
+pub eleven-has-a-cause : {room : ℕ → Type 0} {ds : List Deed} {since : ℕ} {x : Cells} → Reached room ds since x → (keys values journal : List ℕ)
+    → Lent x (end x) keys values journal
+    → (n t : ℕ) (a : Reply) (head : Head) (journal' : List ℕ)
+    → Wrote (Commit n t) (x .head) keys values journal a head journal'
+    → a .number ≡ 11 → Cause n (history ds)
+eleven-has-a-cause = counters.eleven-has-a-cause
+
+pub map-eleven-has-a-cause : {ds : List Deed} {x : MapCells} → MapReached ds x → (cs : Columns) → MapLent x cs
+    → (n t : ℕ) (a : Reply) (head : MapHead) {cs' : Columns}
+    → Does (x .head) cs a head (Did (Commit n t)) cs'
+    → a .number ≡ 11 → Cause n (history ds)
+map-eleven-has-a-cause = counters.map-eleven-has-a-cause
+
+-- Of two that run together and share counters alone one commits: the other's commit gets 11 only if it would have got it before; if it would not, it is accepted too
+-- at a later time, where there is room. Either may be the first.
+pub a-counter-is-shared : {room : ℕ → Type 0} {ds : List Deed} {since : ℕ} {x : Cells} (n m t u : ℕ) → Reached room (Did (Commit m u) ∷ ds) since x
+    → (keys values journal : List ℕ) → Lent x (end x) keys values journal → n ≢ m
+    → ShareCounters (changesOf n (history ds .runners)) (changesOf m (history ds .runners)) → (a : Reply) (head : Head) (journal' : List ℕ)
+    → Wrote (Commit n t) (x .head) keys values journal a head journal'
+    → a .number ≡ 11 → refusalIn (Did (Commit n t)) (history ds) ≡ 11
+a-counter-is-shared = counters.a-counter-is-shared
+
+pub both-commit : {room : ℕ → Type 0} {ds : List Deed} {since : ℕ} {x : Cells} (n m t u : ℕ) → Reached room (Did (Commit m u) ∷ ds) since x
+    → (keys values journal : List ℕ) → Lent x (end x) keys values journal → n ≢ m
+    → ShareCounters (changesOf n (history ds .runners)) (changesOf m (history ds .runners)) → (a : Reply) (head : Head) (journal' : List ℕ)
+    → Wrote (Commit n t) (x .head) keys values journal a head journal'
+    → among n (numbers (history ds .runners)) ≡ true → conflictsWith (history ds .commitments) n (history ds .runners) ≡ false
+    → lastIn (history ds) < t → u < t → a .number ≢ 12 → a ≡ accepted Absent
+both-commit = counters.both-commit
+
+pub a-map-counter-is-shared : {ds : List Deed} {x : MapCells} (n m t u : ℕ) → MapReached (Did (Commit m u) ∷ ds) x → (cs : Columns) → MapLent x cs → n ≢ m
+    → ShareCounters (changesOf n (history ds .runners)) (changesOf m (history ds .runners)) → (a : Reply) (head : MapHead) {cs' : Columns}
+    → Does (x .head) cs a head (Did (Commit n t)) cs'
+    → a .number ≡ 11 → refusalIn (Did (Commit n t)) (history ds) ≡ 11
+a-map-counter-is-shared = counters.a-map-counter-is-shared
+
+pub both-commit-in-the-map : {ds : List Deed} {x : MapCells} (n m t u : ℕ) → MapReached (Did (Commit m u) ∷ ds) x → (cs : Columns) → MapLent x cs → n ≢ m
+    → ShareCounters (changesOf n (history ds .runners)) (changesOf m (history ds .runners)) → (a : Reply) (head : MapHead) {cs' : Columns}
+    → Does (x .head) cs a head (Did (Commit n t)) cs'
+    → among n (numbers (history ds .runners)) ≡ true → conflictsWith (history ds .commitments) n (history ds .runners) ≡ false
+    → lastIn (history ds) < t → u < t → a .number ≢ 12 → a ≡ accepted Absent
+both-commit-in-the-map = counters.both-commit-in-the-map
+
+-- Where two committed transactions only added to a key, and no other wrote it from a time u before the first of them up to t, its value at t is the value at u,
+-- absent as 0, plus both totals, modulo 4,294,967,296. Such a u is the earlier snapshot.
+pub both-totals-are-looked-up : {room : ℕ → Type 0} {ds : List Deed} {since : ℕ} {x : Cells} → Reached room ds since x → (keys values journal : List ℕ)
+    → Lent x (end x) keys values journal
+    → (newer : List Commitment) (second : Commitment) (between : List Commitment) (first : Commitment) (older : List Commitment)
+    → history ds .commitments ≡ newer ++ second ∷ (between ++ first ∷ older) → (k u t : ℕ) → 1 ≤ k → u < first .time → second .time ≤ t
+    → history ds .low ≤ t → t ≤ lastIn (history ds) → writtenBetween newer u t k ≡ false → writtenBetween between u t k ≡ false
+    → writtenBetween older u t k ≡ false → Raises k first → Raises k second
+    → shapedReply (x .head) keys values journal (lookupDecided k t)
+    ≡ accepted (Present (raisedBy (orZero (valueIn (history ds .commitments) u k)) (total k (first .changes) + total k (second .changes))))
+both-totals-are-looked-up = counters.both-totals-are-looked-up
+
+pub both-totals-are-listed : {room : ℕ → Type 0} {ds : List Deed} {since : ℕ} {x : Cells} → Reached room ds since x → (keys values journal : List ℕ)
+    → Lent x (end x) keys values journal
+    → (newer : List Commitment) (second : Commitment) (between : List Commitment) (first : Commitment) (older : List Commitment)
+    → history ds .commitments ≡ newer ++ second ∷ (between ++ first ∷ older) → (k u t : ℕ) → 1 ≤ k → u < first .time → second .time ≤ t
+    → history ds .low ≤ t → t ≤ lastIn (history ds) → writtenBetween newer u t k ≡ false → writtenBetween between u t k ≡ false
+    → writtenBetween older u t k ≡ false → Raises k first → Raises k second
+    → (listed contents : List ℕ) → length listed ≡ length contents → length (listIn (history ds .commitments) t) ≤ length listed
+    → (a : Reply) (listed' contents' : List ℕ) → ListedBy (x .head) keys values journal t listed contents a listed' contents'
+    → Shows (listIn (history ds .commitments) t) 0 listed contents a listed' contents'
+    × (rowValue (listIn (history ds .commitments) t) k
+    ≡ Present (raisedBy (orZero (valueIn (history ds .commitments) u k)) (total k (first .changes) + total k (second .changes))))
+both-totals-are-listed = counters.both-totals-are-listed
+
+pub map-both-totals-are-looked-up : {ds : List Deed} {x : MapCells} → MapReached ds x → (cs : Columns) → MapLent x cs
+    → (newer : List Commitment) (second : Commitment) (between : List Commitment) (first : Commitment) (older : List Commitment)
+    → history ds .commitments ≡ newer ++ second ∷ (between ++ first ∷ older) → (k u t : ℕ) → 1 ≤ k → u < first .time → second .time ≤ t
+    → history ds .low ≤ t → t ≤ lastIn (history ds) → writtenBetween newer u t k ≡ false → writtenBetween between u t k ≡ false
+    → writtenBetween older u t k ≡ false → Raises k first → Raises k second
+    → lookupReply k t (x .head) cs
+    ≡ accepted (Present (raisedBy (orZero (valueIn (history ds .commitments) u k)) (total k (first .changes) + total k (second .changes))))
+map-both-totals-are-looked-up = counters.map-both-totals-are-looked-up
+
+pub map-both-totals-are-listed : {ds : List Deed} {x : MapCells} → MapReached ds x → (cs : Columns) → MapLent x cs
+    → (newer : List Commitment) (second : Commitment) (between : List Commitment) (first : Commitment) (older : List Commitment)
+    → history ds .commitments ≡ newer ++ second ∷ (between ++ first ∷ older) → (k u t : ℕ) → 1 ≤ k → u < first .time → second .time ≤ t
+    → history ds .low ≤ t → t ≤ lastIn (history ds) → writtenBetween newer u t k ≡ false → writtenBetween between u t k ≡ false
+    → writtenBetween older u t k ≡ false → Raises k first → Raises k second
+    → (listed contents : List ℕ) → length listed ≡ length contents → length (listIn (history ds .commitments) t) ≤ length listed
+    → (a : Reply) (listed' contents' : List ℕ) → ListedAt t (x .head) cs listed contents a listed' contents'
+    → Shows (listIn (history ds .commitments) t) 0 listed contents a listed' contents'
+    × (rowValue (listIn (history ds .commitments) t) k
+    ≡ Present (raisedBy (orZero (valueIn (history ds .commitments) u k)) (total k (first .changes) + total k (second .changes))))
+map-both-totals-are-listed = counters.map-both-totals-are-listed
+
+-- An adder and an assigner of one key, or two assigners, still conflict, whichever commits first.
+pub an-assign-conflicts : {room : ℕ → Type 0} {ds : List Deed} {since : ℕ} {x : Cells} → Reached room ds since x → (keys values journal : List ℕ)
+    → Lent x (end x) keys values journal
+    → (newer : List Commitment) (c : Commitment) (older : List Commitment) → history ds .commitments ≡ newer ++ c ∷ older → (n t : ℕ)
+    → among n (numbers (history ds .runners)) ≡ true → snapshotOf n (history ds .runners) < c .time → lastIn (history ds) < t → (k : ℕ)
+    → changes k (changesOf n (history ds .runners)) ≡ true → changes k (c .changes) ≡ true
+    → (onlyAdds k (changesOf n (history ds .runners)) && onlyAdds k (c .changes)) ≡ false → (a : Reply) (head : Head) (journal' : List ℕ)
+    → Wrote (Commit n t) (x .head) keys values journal a head journal' → a .number ≡ 11
+an-assign-conflicts = counters.an-assign-conflicts
+
+pub map-an-assign-conflicts : {ds : List Deed} {x : MapCells} → MapReached ds x → (cs : Columns) → MapLent x cs
+    → (newer : List Commitment) (c : Commitment) (older : List Commitment) → history ds .commitments ≡ newer ++ c ∷ older → (n t : ℕ)
+    → among n (numbers (history ds .runners)) ≡ true → snapshotOf n (history ds .runners) < c .time → lastIn (history ds) < t → (k : ℕ)
+    → changes k (changesOf n (history ds .runners)) ≡ true → changes k (c .changes) ≡ true
+    → (onlyAdds k (changesOf n (history ds .runners)) && onlyAdds k (c .changes)) ≡ false → (a : Reply) (head : MapHead) {cs' : Columns}
+    → Does (x .head) cs a head (Did (Commit n t)) cs' → a .number ≡ 11
+map-an-assign-conflicts = counters.map-an-assign-conflicts
 
 -- NO TRIVIAL STORE. A committed assign is looked up, and listed where the list has room.
 pub a-committed-assign-is-looked-up : {room : ℕ → Type 0} {ds : List Deed} {since : ℕ} {x : Cells} (n k v t : ℕ)

@@ -97,14 +97,21 @@ module _ (n : ℕ) where
   ended-numbers [] = refl
   ended-numbers (r ∷ rs) = split (eqb n (r .number)) (λ e. rw (e, ended-numbers rs)) (λ e. rw (e, ended-numbers rs))
 
-  ended-changes : (m : ℕ) → eqb n m ≡ false → (rs : List Runner) → changesOf m (ended n rs) ≡ changesOf m rs
+  pub ended-among : (m : ℕ) → eqb n m ≡ false → (rs : List Runner) → among m (numbers (ended n rs)) ≡ among m (numbers rs)
+  ended-among m h [] = refl
+  ended-among m h (r ∷ rs) =
+      split (eqb n (r .number))
+      (λ e. let q : eqb (r .number) m ≡ false = rw (← eqb-true n (r .number) e) h in rw (e, q, ended-among m h rs))
+      (λ e. rw (e, ended-among m h rs))
+
+  pub ended-changes : (m : ℕ) → eqb n m ≡ false → (rs : List Runner) → changesOf m (ended n rs) ≡ changesOf m rs
   ended-changes m h [] = refl
   ended-changes m h (r ∷ rs) =
       split (eqb n (r .number))
       (λ e. let q : eqb (r .number) m ≡ false = rw (← eqb-true n (r .number) e) h in rw (e, q, ended-changes m h rs))
       (λ e. rw (e, ended-changes m h rs))
 
-  ended-snapshot : (m : ℕ) → eqb n m ≡ false → (rs : List Runner) → snapshotOf m (ended n rs) ≡ snapshotOf m rs
+  pub ended-snapshot : (m : ℕ) → eqb n m ≡ false → (rs : List Runner) → snapshotOf m (ended n rs) ≡ snapshotOf m rs
   ended-snapshot m h [] = refl
   ended-snapshot m h (r ∷ rs) =
       split (eqb n (r .number))

@@ -187,7 +187,7 @@ abbrev pub map-1 : MapStory at-1
 unfolding firstSlot lowestFree placesOf
 map-1 = (
   _,
-  did map-start (Did (Begin 0)) (columns junk junk junk) (λ shaped. refl) _ _ _
+  did map-start (Did (Begin 0)) (columns junk junk junk junk) (λ shaped. refl) _ _ _
       (begins 0 (record { reply = refl; headed = refl })),
 )
 
