@@ -19,8 +19,8 @@
  * rounded up, the greater of what the repository's rust/bench/run measures on x86-64 and on Arm:
  *
  *                   begin  assign, add  read  commit  abort  lookup  list  checkpoint  recover
- *   journal store       9            9    19      17      1      19    59          64       13
- *   map store          12           13     6      19     10       3    36          46        -
+ *   journal store       9            9    19      25      1      19    59          64       13
+ *   map store          13           14     6      20     11       3    36          47        -
  *
  * What comes back. A call that changes the store returns a head: use it from then on in place of the old one. A
  * refused call returns the head that it was given and changes no lent cell. The answer is the number of the
@@ -46,12 +46,13 @@ extern "C" {
 #endif
 
 /* This header's version, and the layout of the structs that pass to the library and back, which changes if a field
- * does: registers_limits().layout is the library's own. */
-#define REGISTERS_VERSION_MAJOR 1
+ * does: registers_limits().layout is the library's own. Layout 2 has the marks: a fourth column that every map call is
+ * lent, and a field of each slot. The journal store's head, records and file are those of layout 1. */
+#define REGISTERS_VERSION_MAJOR 2
 #define REGISTERS_VERSION_MINOR 0
 #define REGISTERS_VERSION_PATCH 0
-#define REGISTERS_VERSION "1.0.0"
-#define REGISTERS_LAYOUT 1u
+#define REGISTERS_VERSION "2.0.0"
+#define REGISTERS_LAYOUT 2u
 
 /* The limits. Keys are 1 to 4,294,967,295, values 0 to 4,294,967,295; 0 is an ordinary value and differs from
  * absent. Times are 0 to 18,446,744,073,709,551,615; no commit is at 0. Transaction numbers are 1 to
@@ -84,7 +85,8 @@ enum registers_number {
                                            its slot used */
     REGISTERS_HELD = 9,                 /* a checkpoint above a running snapshot */
     REGISTERS_NOT_LATER = 10,           /* a commit time at most last */
-    REGISTERS_CONFLICT = 11,            /* a commit later than the snapshot wrote a key that this one has written */
+    REGISTERS_CONFLICT = 11,            /* a commit later than the snapshot wrote a key that this one has written,
+                                           and not both of them used nothing but add on it */
     REGISTERS_NO_ROOM = 12,             /* too few free records, version rows, list rows or base rows */
     REGISTERS_BAD_RECORD = 13           /* a record that no accepted call would write there; its place is told */
 };
@@ -136,14 +138,16 @@ typedef struct registers_journal_result {
     registers_answer answer;
 } registers_journal_result;
 
-/* A running transaction of the map store: count rows, a key and its running value each, are in use. A free slot is
- * all zero. */
+/* A running transaction of the map store: count rows are in use, each a key and what the transaction's updates of it
+ * come to. Where the row's mark is 0 the transaction assigns the value; where it is any other number, of which a call
+ * writes 1, it used nothing but add on the key, and the value is the total. A free slot is all zero. */
 typedef struct registers_slot {
     uint32_t number;
     uint64_t snapshot;
     size_t count;
     uint32_t keys[REGISTERS_KEYS];
     uint32_t values[REGISTERS_KEYS];
+    uint8_t marks[REGISTERS_KEYS];
 } registers_slot;
 
 /* The slots; those occupied are the one bits of a single number. */
@@ -205,7 +209,8 @@ typedef struct registers_number_figures {
 registers_number_figures registers_numbers(void);
 
 /* Heads whose fields hold their place, counted from 1 in the order of declaration, those of inner structs and cells
- * of arrays counted on. They tell where the library has each field, and are heads of no store. */
+ * of arrays counted on; a mark, which is one byte, modulo 256. They tell where the library has each field, and are
+ * heads of no store. */
 registers_journal_head registers_journal_sample(void);
 registers_map_head registers_map_sample(void);
 
@@ -288,13 +293,15 @@ registers_journal_result registers_journal_abort(registers_journal_head head, co
                                                  size_t keys_length, const uint32_t *values, size_t values_length,
                                                  uint8_t *journal, size_t journal_length, uint32_t n);
 
-/* Commits transaction n at t, a time later than last. Refusals 1, 2, 10, 11, 12; 12 as for abort. A transaction
- * that is refused goes on running. */
+/* Commits transaction n at t, a time later than last. Where it used nothing but add on a key, its total goes on top of
+ * the newest committed value, so two transactions may raise one counter at the same time. Refusals 1, 2, 10, 11, 12;
+ * 12 as for abort. A transaction that is refused goes on running. */
 registers_journal_result registers_journal_commit(registers_journal_head head, const uint32_t *keys,
                                                   size_t keys_length, const uint32_t *values, size_t values_length,
                                                   uint8_t *journal, size_t journal_length, uint32_t n, uint64_t t);
 
-/* The value of key k in transaction n: at its snapshot, then its own updates in order. Refusals 1, 2, 3. */
+/* The value of key k in transaction n: at its snapshot, then its own updates in order. What others have added since
+ * the snapshot is not in it; after the commit it is. Refusals 1, 2, 3. */
 registers_answer registers_journal_read(registers_journal_head head, const uint32_t *keys, size_t keys_length,
                                         const uint32_t *values, size_t values_length, const uint8_t *journal,
                                         size_t journal_length, uint32_t n, uint32_t k);
@@ -332,8 +339,10 @@ registers_journal_result registers_journal_recover(registers_journal_head head, 
                                                    size_t keys_length, const uint32_t *values, size_t values_length,
                                                    uint8_t *journal, size_t journal_length, size_t survived);
 
-/* ==== The map store. Each call is lent the head by value and the versions as three columns of equal length: keys,
- * commit times and values. Nothing of it survives a restart by itself. */
+/* ==== The map store. Each call is lent the head by value and the versions as four columns of equal length: keys,
+ * commit times, values and marks. A version's mark tells what its transaction did to the key: 0 that an assign was
+ * among it, 1 that it was nothing but add; any other number than 0 counts as 1. Nothing of the store survives a
+ * restart by itself. */
 
 /* The head of an empty store: low and last 0, next 1, no versions, all slots free. */
 registers_map_head registers_map_empty(void);
@@ -341,51 +350,58 @@ registers_map_head registers_map_empty(void);
 /* Begins a transaction that reads as of t, a time from low to last, and answers its number. Refusals 1, 4, 5, 6, 7. */
 registers_map_result registers_map_begin(registers_map_head head, const uint32_t *keys, size_t keys_length,
                                          const uint64_t *times, size_t times_length, const uint32_t *values,
-                                         size_t values_length, uint64_t t);
+                                         size_t values_length, const uint8_t *marks, size_t marks_length, uint64_t t);
 
 /* Transaction n gives key k the value v, once it commits. Refusals 1, 2, 3, 8. */
 registers_map_result registers_map_assign(registers_map_head head, const uint32_t *keys, size_t keys_length,
                                           const uint64_t *times, size_t times_length, const uint32_t *values,
-                                          size_t values_length, uint32_t n, uint32_t k, uint32_t v);
+                                          size_t values_length, const uint8_t *marks, size_t marks_length, uint32_t n,
+                                          uint32_t k, uint32_t v);
 
 /* Transaction n adds d to key k, modulo 4,294,967,296, once it commits; absent counts as 0. Refusals 1, 2, 3, 8. */
 registers_map_result registers_map_add(registers_map_head head, const uint32_t *keys, size_t keys_length,
                                        const uint64_t *times, size_t times_length, const uint32_t *values,
-                                       size_t values_length, uint32_t n, uint32_t k, uint32_t d);
+                                       size_t values_length, const uint8_t *marks, size_t marks_length, uint32_t n,
+                                       uint32_t k, uint32_t d);
 
 /* Ends transaction n; its updates have no effect. Refusals 1, 2. */
 registers_map_result registers_map_abort(registers_map_head head, const uint32_t *keys, size_t keys_length,
                                          const uint64_t *times, size_t times_length, const uint32_t *values,
-                                         size_t values_length, uint32_t n);
+                                         size_t values_length, const uint8_t *marks, size_t marks_length, uint32_t n);
 
 /* Commits transaction n at t, a time later than last: one version for each key written, in order of first update,
- * behind the used ones. Refusals 1, 2, 10, 11, 12; 12 for too few version rows. A transaction that is refused goes
- * on running. */
-registers_map_result registers_map_commit(registers_map_head head, uint32_t *keys, size_t keys_length,
-                                          uint64_t *times, size_t times_length, uint32_t *values,
-                                          size_t values_length, uint32_t n, uint64_t t);
+ * behind the used ones. Where it used nothing but add on a key, its total goes on top of the newest committed value,
+ * so two transactions may raise one counter at the same time. Refusals 1, 2, 10, 11, 12; 12 for too few version rows.
+ * A transaction that is refused goes on running. */
+registers_map_result registers_map_commit(registers_map_head head, uint32_t *keys, size_t keys_length, uint64_t *times,
+                                          size_t times_length, uint32_t *values, size_t values_length, uint8_t *marks,
+                                          size_t marks_length, uint32_t n, uint64_t t);
 
-/* The value of key k in transaction n: its own running value, else the value at its snapshot. Refusals 1, 2, 3. */
+/* The value of key k in transaction n: at its snapshot, then its own updates in order. What others have added since
+ * the snapshot is not in it; after the commit it is. Refusals 1, 2, 3. */
 registers_answer registers_map_read(registers_map_head head, const uint32_t *keys, size_t keys_length,
                                     const uint64_t *times, size_t times_length, const uint32_t *values,
-                                    size_t values_length, uint32_t n, uint32_t k);
+                                    size_t values_length, const uint8_t *marks, size_t marks_length, uint32_t n,
+                                    uint32_t k);
 
 /* The committed value of key k at t; a commit at t is visible. Refusals 1, 3, 4, 5. */
 registers_answer registers_map_lookup(registers_map_head head, const uint32_t *keys, size_t keys_length,
                                       const uint64_t *times, size_t times_length, const uint32_t *values,
-                                      size_t values_length, uint32_t k, uint64_t t);
+                                      size_t values_length, const uint8_t *marks, size_t marks_length, uint32_t k,
+                                      uint64_t t);
 
 /* The list at t, as for the journal store. Refusals 1, 4, 5, 12. */
 registers_answer registers_map_list(registers_map_head head, const uint32_t *keys, size_t keys_length,
                                     const uint64_t *times, size_t times_length, const uint32_t *values,
-                                    size_t values_length, uint64_t t, uint32_t *listed, size_t listed_length,
-                                    uint32_t *contents, size_t contents_length);
+                                    size_t values_length, const uint8_t *marks, size_t marks_length, uint64_t t,
+                                    uint32_t *listed, size_t listed_length, uint32_t *contents,
+                                    size_t contents_length);
 
-/* Low becomes t. Kept, in order: versions after t and, for each key, its newest at or before t; freed rows are zero
- * and used again. Refusals 1, 4, 5, 9. */
+/* Low becomes t. Kept, in order and with their marks: versions after t and, for each key, its newest at or before t;
+ * freed rows are zero and used again. Refusals 1, 4, 5, 9. */
 registers_map_result registers_map_checkpoint(registers_map_head head, uint32_t *keys, size_t keys_length,
                                               uint64_t *times, size_t times_length, uint32_t *values,
-                                              size_t values_length, uint64_t t);
+                                              size_t values_length, uint8_t *marks, size_t marks_length, uint64_t t);
 
 #ifdef __cplusplus
 }
@@ -414,20 +430,21 @@ typedef char registers_journal_result_agrees[sizeof(registers_journal_result) ==
                                                  ? 1
                                                  : -1];
 
-typedef char registers_slot_agrees[sizeof(registers_slot) == 280 && REGISTERS_PLACE(registers_slot, number, 0) &&
+typedef char registers_slot_agrees[sizeof(registers_slot) == 312 && REGISTERS_PLACE(registers_slot, number, 0) &&
                                            REGISTERS_PLACE(registers_slot, snapshot, 8) &&
                                            REGISTERS_PLACE(registers_slot, count, 16) &&
                                            REGISTERS_PLACE(registers_slot, keys, 24) &&
-                                           REGISTERS_PLACE(registers_slot, values, 152)
+                                           REGISTERS_PLACE(registers_slot, values, 152) &&
+                                           REGISTERS_PLACE(registers_slot, marks, 280)
                                        ? 1
                                        : -1];
 
-typedef char registers_slots_agrees[sizeof(registers_slots) == 2248 && REGISTERS_PLACE(registers_slots, occupied, 0) &&
+typedef char registers_slots_agrees[sizeof(registers_slots) == 2504 && REGISTERS_PLACE(registers_slots, occupied, 0) &&
                                             REGISTERS_PLACE(registers_slots, slots, 8)
                                         ? 1
                                         : -1];
 
-typedef char registers_map_head_agrees[sizeof(registers_map_head) == 2280 &&
+typedef char registers_map_head_agrees[sizeof(registers_map_head) == 2536 &&
                                                REGISTERS_PLACE(registers_map_head, low, 0) &&
                                                REGISTERS_PLACE(registers_map_head, last, 8) &&
                                                REGISTERS_PLACE(registers_map_head, next, 16) &&
@@ -436,9 +453,9 @@ typedef char registers_map_head_agrees[sizeof(registers_map_head) == 2280 &&
                                            ? 1
                                            : -1];
 
-typedef char registers_map_result_agrees[sizeof(registers_map_result) == 2296 &&
+typedef char registers_map_result_agrees[sizeof(registers_map_result) == 2552 &&
                                                  REGISTERS_PLACE(registers_map_result, head, 0) &&
-                                                 REGISTERS_PLACE(registers_map_result, answer, 2280)
+                                                 REGISTERS_PLACE(registers_map_result, answer, 2536)
                                              ? 1
                                              : -1];
 

@@ -97,6 +97,8 @@ static void map_layout(void)
             same("the place of a key", ++place, slot->keys[row]);
         for (size_t row = 0; row < REGISTERS_KEYS; row++)
             same("the place of a value", ++place, slot->values[row]);
+        for (size_t row = 0; row < REGISTERS_KEYS; row++)
+            same("the place of a mark", ++place % 256, slot->marks[row]);
     }
 }
 
@@ -174,6 +176,66 @@ static void last_number(void)
     answered(taken(registers_journal_begin(STORE, 0)), REGISTERS_NO_NUMBERS, 0, 0);
 }
 
+/* A small map store. */
+static registers_map_head map;
+static uint32_t version_keys[4], version_values[4];
+static uint64_t version_times[4];
+static uint8_t version_marks[4];
+
+#define MAP map, version_keys, 4, version_times, 4, version_values, 4, version_marks, 4
+
+static registers_answer map_taken(registers_map_result result)
+{
+    map = result.head;
+    return result.answer;
+}
+
+static void version_row(size_t row, uint32_t key, uint64_t time, uint32_t value, uint8_t mark)
+{
+    same("a version's key", key, version_keys[row]);
+    same("its time", time, version_times[row]);
+    same("its value", value, version_values[row]);
+    same("its mark", mark, version_marks[row]);
+}
+
+/* Transactions 1 and 2 add to a key and 3 assigns it, at the same time: the totals of both adders stand, the assign is
+ * refused, and the marks tell which is which. */
+static void adders(void)
+{
+    const uint32_t k = 773;
+    map = registers_map_empty();
+    for (uint32_t n = 1; n <= 3; n++)
+        answered(map_taken(registers_map_begin(MAP, 0)), REGISTERS_ACCEPTED, 1, n);
+    answered(map_taken(registers_map_add(MAP, 1, k, 5)), REGISTERS_ACCEPTED, 0, 0);
+    answered(map_taken(registers_map_add(MAP, 2, k, 7)), REGISTERS_ACCEPTED, 0, 0);
+    answered(map_taken(registers_map_assign(MAP, 3, k, 9)), REGISTERS_ACCEPTED, 0, 0);
+    same("the mark of a row that adds", 1, map.slots.slots[1].marks[0]);
+    same("the mark of a row that assigns", 0, map.slots.slots[2].marks[0]);
+    answered(map_taken(registers_map_commit(MAP, 1, 1)), REGISTERS_ACCEPTED, 0, 0);
+    answered(registers_map_read(MAP, 2, k), REGISTERS_ACCEPTED, 1, 7);
+    answered(map_taken(registers_map_commit(MAP, 2, 2)), REGISTERS_ACCEPTED, 0, 0);
+    answered(registers_map_lookup(MAP, k, 2), REGISTERS_ACCEPTED, 1, 12);
+    answered(map_taken(registers_map_commit(MAP, 3, 3)), REGISTERS_CONFLICT, 0, 0);
+    answered(map_taken(registers_map_abort(MAP, 3)), REGISTERS_ACCEPTED, 0, 0);
+    version_row(0, k, 1, 5, 1);
+    version_row(1, k, 2, 12, 1);
+}
+
+/* Of the store of adders(): a checkpoint keeps a version's mark and zeroes the rows that it frees; four columns are of
+ * one length. */
+static void four_columns(void)
+{
+    uint32_t listed[4], contents[4];
+    answered(map_taken(registers_map_checkpoint(MAP, 2)), REGISTERS_ACCEPTED, 0, 0);
+    version_row(0, 773, 2, 12, 1);
+    version_row(1, 0, 0, 0, 0);
+    answered(registers_map_list(MAP, 2, listed, 4, contents, 4), REGISTERS_ACCEPTED, 1, 1);
+    same("the listed key", 773, listed[0]);
+    same("its value", 12, contents[0]);
+    answered(registers_map_lookup(map, version_keys, 4, version_times, 4, version_values, 4, version_marks, 3, 773, 2),
+             REGISTERS_BAD_SHAPE, 0, 0);
+}
+
 int main(void)
 {
     limits();
@@ -185,6 +247,8 @@ int main(void)
     records();
     zero_bytes();
     last_number();
+    adders();
+    four_columns();
     printf("header: %lu figures are the library's\n", compared);
     return 0;
 }

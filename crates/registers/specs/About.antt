@@ -1,6 +1,6 @@
 -- What the library was built with: the limits of section 2, the numbers of section 6, and heads whose fields hold their places. Assumes nothing.
 use mathlib.Core.List.{List, [], _∷_}
-use Prim.Native.Nat.{ℕ, zero, suc, _+_, _*_}
+use Prim.Native.Nat.{ℕ, zero, suc, _+_, _*_, _%_}
 use Rattle.rules.specs.Limits.{mostRunning, mostKeys, mostRows, mostVersions, mostRecords}
 use Rattle.rules.specs.Kinds.{recordBytes}
 use Rattle.answer.specs.declared.Refusal.the-variants.{BadShape, UnknownTransaction, BadKey, TooOld, Future, TooMany, NoNumbers, KeysFull, Held, NotLater, Conflict, NoRoom, BadRecord}
@@ -15,7 +15,7 @@ use Rattle.registers.specs.declared.about.Numbers.{Numbers}
 abbrev pub limits : Limits
 limits =
     record {
-      layout = 1;
+      layout = 2;
       running = mostRunning;
       keys = mostKeys;
       «base_rows» = mostRows;
@@ -53,15 +53,27 @@ unfoldable pub countedFrom : ℕ → ℕ → List ℕ
 countedFrom n zero = []
 countedFrom n (suc count) = n ∷ countedFrom (n + 1) count
 
+-- the same as single bytes, modulo 256
+unfoldable pub markedFrom : ℕ → ℕ → List ℕ
+markedFrom n zero = []
+markedFrom n (suc count) = (n % 256) ∷ markedFrom (n + 1) count
+
 -- the fields of a slot, counted from n on
 abbrev pub slotFrom : ℕ → Slot
 slotFrom n =
-    record { number = n; snapshot = n + 1; count = n + 2; keys = countedFrom (n + 3) mostKeys; values = countedFrom (n + 3 + mostKeys) mostKeys }
+    record {
+      number = n;
+      snapshot = n + 1;
+      count = n + 2;
+      keys = countedFrom (n + 3) mostKeys;
+      values = countedFrom (n + 3 + mostKeys) mostKeys;
+      marks = markedFrom (n + 3 + 2 * mostKeys) mostKeys;
+    }
 
 -- so many slots, counted from n on
 unfoldable pub slotsFrom : ℕ → ℕ → List Slot
 slotsFrom n zero = []
-slotsFrom n (suc count) = slotFrom n ∷ slotsFrom (n + (3 + 2 * mostKeys)) count
+slotsFrom n (suc count) = slotFrom n ∷ slotsFrom (n + (3 + 3 * mostKeys)) count
 
 -- the fields of a map head, counted through all slots
 abbrev pub mapSample : MapHead

@@ -3,7 +3,7 @@
 ghost use mathlib.Core.Path.{_≡_};
 ghost use Prim.Native.Nat.{_≤_};
 ghost use Rattle.rules.specs.Limits.{mostRunning, mostKeys};
-ghost use Rattle.registers.specs.About.{limits, numbers, journalSample, mapSample, countedFrom, slotFrom, slotsFrom};
+ghost use Rattle.registers.specs.About.{limits, numbers, journalSample, mapSample, countedFrom, markedFrom, slotFrom, slotsFrom};
 use answer::Refusal;
 use journal::Base;
 use journal::Journal;
@@ -29,7 +29,7 @@ pub struct Limits {
 
 impl Limits {
     // The layout of both heads: another number where a field is added, moved or made wider.
-    pub const LAYOUT: u32 = 1;
+    pub const LAYOUT: u32 = 2;
 }
 
 // The number of each refusal, under the name of what happened.
@@ -102,7 +102,7 @@ pub extern "C" fn registers_journal_sample() -> Head
     }
 }
 
-// A map head whose fields hold their places, counted from 1 through all slots and their rows.
+// A map head whose fields hold their places, counted from 1 through all slots and their rows; a mark, which is one byte, modulo 256.
 #[no_mangle]
 pub extern "C" fn registers_map_sample() -> MapHead
     ensures { λ r. ⌜ r ≡ mapSample ⌝ }
@@ -118,7 +118,7 @@ pub extern "C" fn registers_map_sample() -> MapHead
 }
 
 // As many fields as a slot has.
-const SLOT_FIELDS: u32 = 3 + 2 * Slot::KEYS as u32;
+const SLOT_FIELDS: u32 = 3 + 3 * Slot::KEYS as u32;
 
 // The eight slots, whose first field has the place given.
 fn slots_from(place: u32) -> [Slot; 8]
@@ -144,16 +144,18 @@ fn slot_from(place: u32) -> Slot
 {
     let keys = counted_from(place + 3);
     let values = counted_from(place + 3 + Slot::KEYS as u32);
+    let marks = marked_from(place + 3 + 2 * Slot::KEYS as u32);
     Slot {
         number: place,
         snapshot: (place + 1) as u64,
         count: (place + 2) as usize,
         keys,
         values,
+        marks,
     }
 }
 
-// The rows of a slot's column, whose first has the place given.
+// The rows of a slot's keys or values, whose first has the place given.
 fn counted_from(place: u32) -> [u32; 32]
     requires { ⌜ place ≤ 3000 ⌝ }
     ensures { λ r. ⌜ r ≡ countedFrom place mostKeys ⌝ }
@@ -163,6 +165,22 @@ fn counted_from(place: u32) -> [u32; 32]
     let mut i = 0;
     while i < Slot::KEYS {
         cells[i] = at;
+        at += 1;
+        i += 1;
+    }
+    cells
+}
+
+// The rows of a slot's marks, whose first has the place given, modulo 256.
+fn marked_from(place: u32) -> [u8; 32]
+    requires { ⌜ place ≤ 3000 ⌝ }
+    ensures { λ r. ⌜ r ≡ markedFrom place mostKeys ⌝ }
+{
+    let mut cells = [0; Slot::KEYS];
+    let mut at = place;
+    let mut i = 0;
+    while i < Slot::KEYS {
+        cells[i] = (at % 256) as u8;
         at += 1;
         i += 1;
     }

@@ -1,4 +1,4 @@
-// The calls of the map store. Each is lent the head by value and the three version columns, keys, times and values.
+// The calls of the map store. Each is lent the head by value and the four version columns, keys, times, values and marks.
 ghost use mathlib.Core.Path.{_≡_};
 ghost use Rattle.rules.specs.Calls.{Begin, Update, Abort};
 ghost use Rattle.versions.specs.Versions.{columns};
@@ -54,11 +54,12 @@ pub extern "C" fn registers_map_begin(
     keys: &[u32],
     times: &[u64],
     values: &[u32],
+    marks: &[u8],
     time: u64,
 ) -> MapResult
-    ensures { λ r. ⌜ MapReturns (λ a head. Answered (Begin time) h (columns (now (keys .entry)) (now (times .entry)) (now (values .entry))) a head) r ⌝ }
+    ensures { λ r. ⌜ MapReturns (λ a head. Answered (Begin time) h (columns (now (keys .entry)) (now (times .entry)) (now (values .entry)) (now (marks .entry))) a head) r ⌝ }
 {
-    started(map_store::begin::begin(h, keys, times, values, time))
+    started(map_store::begin::begin(h, keys, times, values, marks, time))
 }
 
 // A running transaction gives a key a value. Refusals 1, 2, 3, 8.
@@ -68,14 +69,15 @@ pub extern "C" fn registers_map_assign(
     keys: &[u32],
     times: &[u64],
     values: &[u32],
+    marks: &[u8],
     transaction: u32,
     key: u32,
     value: u32,
 ) -> MapResult
-    ensures { λ r. ⌜ MapReturns (λ a head. Answered (Update transaction key (Effect.Assign value)) h (columns (now (keys .entry)) (now (times .entry)) (now (values .entry))) a head) r ⌝ }
+    ensures { λ r. ⌜ MapReturns (λ a head. Answered (Update transaction key (Effect.Assign value)) h (columns (now (keys .entry)) (now (times .entry)) (now (values .entry)) (now (marks .entry))) a head) r ⌝ }
 {
     let e = Effect::Assign(value);
-    ended(map_store::update::update(h, keys, times, values, transaction, key, e))
+    ended(map_store::update::update(h, keys, times, values, marks, transaction, key, e))
 }
 
 // A running transaction adds to a key. Refusals 1, 2, 3, 8.
@@ -85,14 +87,15 @@ pub extern "C" fn registers_map_add(
     keys: &[u32],
     times: &[u64],
     values: &[u32],
+    marks: &[u8],
     transaction: u32,
     key: u32,
     amount: u32,
 ) -> MapResult
-    ensures { λ r. ⌜ MapReturns (λ a head. Answered (Update transaction key (Effect.Add amount)) h (columns (now (keys .entry)) (now (times .entry)) (now (values .entry))) a head) r ⌝ }
+    ensures { λ r. ⌜ MapReturns (λ a head. Answered (Update transaction key (Effect.Add amount)) h (columns (now (keys .entry)) (now (times .entry)) (now (values .entry)) (now (marks .entry))) a head) r ⌝ }
 {
     let e = Effect::Add(amount);
-    ended(map_store::update::update(h, keys, times, values, transaction, key, e))
+    ended(map_store::update::update(h, keys, times, values, marks, transaction, key, e))
 }
 
 // Ends a running transaction; its updates have no effect. Refusals 1, 2.
@@ -102,11 +105,12 @@ pub extern "C" fn registers_map_abort(
     keys: &[u32],
     times: &[u64],
     values: &[u32],
+    marks: &[u8],
     transaction: u32,
 ) -> MapResult
-    ensures { λ r. ⌜ MapReturns (λ a head. Answered (Abort transaction) h (columns (now (keys .entry)) (now (times .entry)) (now (values .entry))) a head) r ⌝ }
+    ensures { λ r. ⌜ MapReturns (λ a head. Answered (Abort transaction) h (columns (now (keys .entry)) (now (times .entry)) (now (values .entry)) (now (marks .entry))) a head) r ⌝ }
 {
-    ended(map_store::abort::abort(h, keys, times, values, transaction))
+    ended(map_store::abort::abort(h, keys, times, values, marks, transaction))
 }
 
 // Commits a running transaction at a time later than last. Refusals 1, 2, 10, 11, 12.
@@ -116,12 +120,13 @@ pub extern "C" fn registers_map_commit(
     keys: &mut [u32],
     times: &mut [u64],
     values: &mut [u32],
+    marks: &mut [u8],
     transaction: u32,
     time: u64,
 ) -> MapResult
-    ensures { λ r. ⌜ MapReturns (λ a head. Committed transaction time h (columns (now (keys .entry)) (now (times .entry)) (now (values .entry))) a head (columns (now (keys .exit)) (now (times .exit)) (now (values .exit)))) r ⌝ }
+    ensures { λ r. ⌜ MapReturns (λ a head. Committed transaction time h (columns (now (keys .entry)) (now (times .entry)) (now (values .entry)) (now (marks .entry))) a head (columns (now (keys .exit)) (now (times .exit)) (now (values .exit)) (now (marks .exit)))) r ⌝ }
 {
-    ended(map_commit::commit(h, keys, times, values, transaction, time))
+    ended(map_commit::commit(h, keys, times, values, marks, transaction, time))
 }
 
 // The value of a key as a running transaction sees it, or absent. Refusals 1, 2, 3.
@@ -131,12 +136,13 @@ pub extern "C" fn registers_map_read(
     keys: &[u32],
     times: &[u64],
     values: &[u32],
+    marks: &[u8],
     transaction: u32,
     key: u32,
 ) -> Answer
-    ensures { λ r. ⌜ Answers (λ a. a ≡ readReply transaction key h (columns (now (keys .entry)) (now (times .entry)) (now (values .entry)))) r ⌝ }
+    ensures { λ r. ⌜ Answers (λ a. a ≡ readReply transaction key h (columns (now (keys .entry)) (now (times .entry)) (now (values .entry)) (now (marks .entry)))) r ⌝ }
 {
-    shown::got(map_store::read::read(h, keys, times, values, transaction, key))
+    shown::got(map_store::read::read(h, keys, times, values, marks, transaction, key))
 }
 
 // The committed value of a key at a time, or absent. Refusals 1, 3, 4, 5.
@@ -146,12 +152,13 @@ pub extern "C" fn registers_map_lookup(
     keys: &[u32],
     times: &[u64],
     values: &[u32],
+    marks: &[u8],
     key: u32,
     time: u64,
 ) -> Answer
-    ensures { λ r. ⌜ Answers (λ a. a ≡ lookupReply key time h (columns (now (keys .entry)) (now (times .entry)) (now (values .entry)))) r ⌝ }
+    ensures { λ r. ⌜ Answers (λ a. a ≡ lookupReply key time h (columns (now (keys .entry)) (now (times .entry)) (now (values .entry)) (now (marks .entry)))) r ⌝ }
 {
-    shown::got(map_store::lookup::lookup(h, keys, times, values, key, time))
+    shown::got(map_store::lookup::lookup(h, keys, times, values, marks, key, time))
 }
 
 // The list at a time, into two lent columns, keys and values; answers the count of rows. Refusals 1, 4, 5, 12.
@@ -161,13 +168,14 @@ pub extern "C" fn registers_map_list(
     keys: &[u32],
     times: &[u64],
     values: &[u32],
+    marks: &[u8],
     time: u64,
     listed: &mut [u32],
     contents: &mut [u32],
 ) -> Answer
-    ensures { λ r. ⌜ Answers (λ a. ListedAt time h (columns (now (keys .entry)) (now (times .entry)) (now (values .entry))) (now (listed .entry)) (now (contents .entry)) a (now (listed .exit)) (now (contents .exit))) r ⌝ }
+    ensures { λ r. ⌜ Answers (λ a. ListedAt time h (columns (now (keys .entry)) (now (times .entry)) (now (values .entry)) (now (marks .entry))) (now (listed .entry)) (now (contents .entry)) a (now (listed .exit)) (now (contents .exit))) r ⌝ }
 {
-    shown::listed(map_list::list(h, keys, times, values, time, listed, contents))
+    shown::listed(map_list::list(h, keys, times, values, marks, time, listed, contents))
 }
 
 // Low becomes a time; kept are the versions after it and, for each key, its newest at or before it. Refusals 1, 4, 5, 9.
@@ -177,9 +185,10 @@ pub extern "C" fn registers_map_checkpoint(
     keys: &mut [u32],
     times: &mut [u64],
     values: &mut [u32],
+    marks: &mut [u8],
     time: u64,
 ) -> MapResult
-    ensures { λ r. ⌜ MapReturns (λ a head. Checkpointed time h (columns (now (keys .entry)) (now (times .entry)) (now (values .entry))) a head (columns (now (keys .exit)) (now (times .exit)) (now (values .exit)))) r ⌝ }
+    ensures { λ r. ⌜ MapReturns (λ a head. Checkpointed time h (columns (now (keys .entry)) (now (times .entry)) (now (values .entry)) (now (marks .entry))) a head (columns (now (keys .exit)) (now (times .exit)) (now (values .exit)) (now (marks .exit)))) r ⌝ }
 {
-    ended(map_checkpoint::checkpoint(h, keys, times, values, time))
+    ended(map_checkpoint::checkpoint(h, keys, times, values, marks, time))
 }

@@ -26,11 +26,17 @@ pub struct MapLent {
     pub keys: Vec<u32>,
     pub times: Vec<u64>,
     pub values: Vec<u32>,
+    pub marks: Vec<u8>,
 }
 
 impl MapLent {
     /// All the room that the map store uses.
     pub fn whole() -> Self {
-        MapLent { keys: vec![0; VERSION_ROWS], times: vec![0; VERSION_ROWS], values: vec![0; VERSION_ROWS] }
+        MapLent::of(VERSION_ROWS)
+    }
+
+    /// Columns with so many rows.
+    pub fn of(rows: usize) -> Self {
+        MapLent { keys: vec![0; rows], times: vec![0; rows], values: vec![0; rows], marks: vec![0; rows] }
     }
 }

@@ -1,5 +1,6 @@
 //! The whole comparison: sequences from empty stores, sequences at the limits, damaged stores.
 
+use crate::counter;
 use crate::damage::{damaged_case, Pool};
 use crate::figures;
 use crate::random::Random;
@@ -167,7 +168,7 @@ fn print_failure(case: Case) {
 /// True if everything agreed and every number of section 6 was seen.
 pub fn compare(seed: u64, sequences: u64, damaged: u64) -> bool {
     println!("seed {seed}, {sequences} sequences, {damaged} calls on damaged stores");
-    if let Err(Difference { what, expected, got }) = figures::agree() {
+    if let Err(Difference { what, expected, got }) = figures::agree().and_then(|()| counter::agree()) {
         println!("{what}: expected {expected}, got {got}");
         return false;
     }

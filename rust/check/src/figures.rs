@@ -53,11 +53,12 @@ impl Places {
             count: self.next() as usize,
             keys: self.column(),
             values: self.column(),
+            marks: self.column().map(|place| place as u8),
         }
     }
 }
 
-/// Every field holds its place, in the order in which the fields are declared.
+/// Every field holds its place, in the order in which the fields are declared; a mark, one byte, what of it fits.
 fn journal_sample() -> JournalHead {
     let mut places = Places(0);
     JournalHead {

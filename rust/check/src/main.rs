@@ -4,6 +4,7 @@
 #![forbid(unsafe_code)]
 
 mod compare;
+mod counter;
 mod damage;
 mod demands;
 mod figures;

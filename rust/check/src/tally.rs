@@ -78,6 +78,7 @@ impl Tally {
         self.checks.between_stores += seen.checks.between_stores;
         self.checks.cuts += seen.checks.cuts;
         self.checks.ends += seen.checks.ends;
+        self.checks.shared += seen.checks.shared;
     }
 
     pub fn calls(&self) -> u64 {
@@ -87,14 +88,16 @@ impl Tally {
     pub fn print(&self) {
         print_table(&self.journal, &OF_JOURNAL, "journal store");
         print_table(&self.map, &OF_MAP, "map store");
-        let Checks { by_history, between_stores, cuts, ends } = self.checks;
+        let Checks { by_history, between_stores, cuts, ends, shared } = self.checks;
         println!("values and lists compared with the history: {by_history}, between the stores: {between_stores}");
         println!("cuts that had to recover: {cuts}, ends that had to find a record: {ends}");
+        println!("commits beside another adder of the same key: {shared}");
     }
 
-    /// The numbers that section 6 gives to a call and that this run never saw.
+    /// The numbers that section 6 gives to a call and that this run never saw; and two adders of one key.
     pub fn missing(&self) -> Vec<String> {
         let journal = never_seen(&self.journal, &OF_JOURNAL, "journal");
-        journal.into_iter().chain(never_seen(&self.map, &OF_MAP, "map")).collect()
+        let adders = (self.checks.shared == 0).then(|| String::from("two adders of one key"));
+        journal.into_iter().chain(never_seen(&self.map, &OF_MAP, "map")).chain(adders).collect()
     }
 }

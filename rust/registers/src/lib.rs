@@ -38,7 +38,8 @@ pub struct JournalResult {
     pub answer: Answer,
 }
 
-/// A running transaction of the map store.
+/// A running transaction of the map store. A row's mark is 0 where its value is assigned; any other number says that the
+/// transaction used nothing but add on the key, and the value is the total.
 #[repr(C)]
 #[derive(Clone, Copy, PartialEq, Eq, Debug)]
 pub struct Slot {
@@ -47,6 +48,7 @@ pub struct Slot {
     pub count: usize,
     pub keys: [u32; KEYS],
     pub values: [u32; KEYS],
+    pub marks: [u8; KEYS],
 }
 
 /// The eight slots; the one bits of `occupied` name the occupied ones.
@@ -80,7 +82,7 @@ pub struct MapResult {
 const _: () = assert!(size_of::<Answer>() == 16);
 const _: () = assert!(size_of::<JournalHead>() == 32);
 const _: () = assert!(size_of::<JournalResult>() == 48);
-const _: () = assert!(size_of::<Slot>() == 280);
-const _: () = assert!(size_of::<Slots>() == 2248);
-const _: () = assert!(size_of::<MapHead>() == 2280);
-const _: () = assert!(size_of::<MapResult>() == 2296);
+const _: () = assert!(size_of::<Slot>() == 312);
+const _: () = assert!(size_of::<Slots>() == 2504);
+const _: () = assert!(size_of::<MapHead>() == 2536);
+const _: () = assert!(size_of::<MapResult>() == 2552);

@@ -1,7 +1,7 @@
 //! The limits of the rule book's section 2, by name.
 
 /// Which layout the heads have.
-pub const LAYOUT: u32 = 1;
+pub const LAYOUT: u32 = 2;
 /// How many bytes a journal record takes.
 pub const RECORD_BYTES: usize = 24;
 /// How many records a journal has at the most.

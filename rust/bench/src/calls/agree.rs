@@ -116,7 +116,7 @@ fn made<H, L, C: Calls<H, L>>(call: Call, h: &mut H, l: &mut L) -> Left {
 const SMALL: u64 = 6;
 /// It strikes one of so many places, all but the named ones in the journal's bytes, or in the map's keys.
 const JOURNAL_PLACES: u64 = 16;
-const MAP_PLACES: u64 = 9;
+const MAP_PLACES: u64 = 11;
 
 /// A number of a journal store changed: a small one in a byte of a record, in the base or in the head.
 fn damage_journal(random: &mut Random, h: &mut JournalHead, l: &mut JournalLent) {
@@ -141,6 +141,8 @@ fn damage_map(random: &mut Random, h: &mut MapHead, l: &mut MapLent) {
         3 => h.slots.slots[small as usize].keys[1] = h.slots.slots[small as usize].keys[0],
         4 => h.slots.slots[small as usize].count = small as usize,
         5 => l.times[row] = small,
+        6 => l.marks[row] = small as u8,
+        7 => h.slots.slots[small as usize].marks[0] = small as u8,
         _ => l.keys[row] = small as u32,
     }
 }
@@ -168,7 +170,7 @@ fn one_journal(random: &mut Random, damaged: bool) {
 }
 
 fn one_map(random: &mut Random, damaged: bool) {
-    let mut lent = MapLent { keys: vec![0; MAP_ROWS], times: vec![0; MAP_ROWS], values: vec![0; MAP_ROWS] };
+    let mut lent = MapLent::of(MAP_ROWS);
     let mut head = <Proved as Calls<_, MapLent>>::empty();
     assert_eq!(head, <Plain as Calls<_, MapLent>>::empty());
     for _ in 0..CALLS {

@@ -14,6 +14,7 @@ pub enum Case {
     Read,
     Commit,
     CommitOld,
+    CommitShared,
     Abort,
     Lookup,
     List,
@@ -28,13 +29,14 @@ pub enum Case {
 pub type Named = (Case, &'static str);
 
 /// The journal store's calls in the order of the tables. Recover is the last: the map store has all but that.
-pub const JOURNAL: [Named; 14] = [
+pub const JOURNAL: [Named; 15] = [
     (Case::Begin, "begin"),
     (Case::Assign, "update, assign"),
     (Case::Add, "update, add"),
     (Case::Read, "read"),
     (Case::Commit, "commit"),
     (Case::CommitOld, "commit, snapshot at low"),
+    (Case::CommitShared, "commit, beside an adder"),
     (Case::Abort, "abort"),
     (Case::Lookup, "lookup at last"),
     (Case::List, "list at last"),

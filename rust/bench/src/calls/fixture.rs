@@ -103,6 +103,16 @@ impl JournalStore {
         taken(Plain::commit(&mut self.head, &mut self.lent, n, self.last));
     }
 
+    /// Two transactions raise a counter at the same time, and one has committed; the number of the other.
+    pub fn shared(&mut self, k: u32) -> u32 {
+        let [first, second] = [self.last; 2].map(|snapshot| self.begun(snapshot));
+        for n in [first, second] {
+            taken(Plain::add(&mut self.head, &mut self.lent, n, k, RAISE));
+        }
+        self.committed(first);
+        second
+    }
+
     pub fn aborted(&mut self, n: u32) {
         taken(Plain::abort(&mut self.head, &mut self.lent, n));
     }
@@ -130,10 +140,24 @@ impl MapStore {
         for i in 0..transactions {
             let last = s.head.last;
             let n = s.updated(last, key(touched(2 * i, registers)), key(touched(2 * i + 1, registers)));
-            let later = s.head.last + 1;
-            taken(Plain::commit(&mut s.head, &mut s.lent, n, later));
+            s.committed(n);
         }
         s
+    }
+
+    fn committed(&mut self, n: u32) {
+        let later = self.head.last + 1;
+        taken(Plain::commit(&mut self.head, &mut self.lent, n, later));
+    }
+
+    /// Two transactions raise a counter at the same time, and one has committed; the number of the other.
+    pub fn shared(&mut self, k: u32) -> u32 {
+        let [first, second] = [self.head.last; 2].map(|snapshot| self.begun(snapshot));
+        for n in [first, second] {
+            taken(Plain::add(&mut self.head, &mut self.lent, n, k, RAISE));
+        }
+        self.committed(first);
+        second
     }
 
     pub fn begun(&mut self, snapshot: u64) -> u32 {

@@ -67,6 +67,8 @@ struct Level {
     registers: usize,
     whole: JournalStore,
     short: JournalStore,
+    /// With two transactions less, so that two can run.
+    shorter: JournalStore,
     gapped: JournalStore,
 }
 
@@ -82,6 +84,7 @@ impl Level {
             registers,
             whole: JournalStore::filled(registers, transactions),
             short: JournalStore::filled(registers, transactions.saturating_sub(1)),
+            shorter: JournalStore::filled(registers, transactions.saturating_sub(2)),
             gapped: JournalStore::filled_with(gapped, registers, transactions),
         }
     }
@@ -100,6 +103,10 @@ impl Level {
             }
             Case::Commit | Case::Abort => s.updated(last, 1, 2),
             Case::CommitOld => s.updated(low, k, other),
+            Case::CommitShared => {
+                s = self.shorter.clone();
+                s.shared(1)
+            }
             Case::ListGapped | Case::CheckpointGapped => return (self.gapped.clone(), 0),
             _ => return (self.whole.clone(), 0),
         };
@@ -115,7 +122,7 @@ impl Level {
             Case::Assign => again(&s, |h, l, i| C::assign(h, l, n, key(i), ASSIGNED)),
             Case::Add => again(&s, |h, l, i| C::add(h, l, n, key(i), RAISE)),
             Case::Read => again(&s, |h, l, i| C::read(h, l, n, key(i))),
-            Case::Commit | Case::CommitOld => again(&s, |h, l, _| C::commit(h, l, n, s.last + 1)),
+            Case::Commit | Case::CommitOld | Case::CommitShared => again(&s, |h, l, _| C::commit(h, l, n, s.last + 1)),
             Case::Abort => again(&s, |h, l, _| C::abort(h, l, n)),
             Case::Lookup => again(&s, |h, l, i| C::lookup(h, l, key(i), s.last)),
             Case::List | Case::ListGapped => listing::<C>(&s),

@@ -69,6 +69,7 @@ fn on_copies(s: &MapStore, mut call: impl FnMut(&mut MapHead, &mut MapLent) -> A
         copy.lent.keys[..used].copy_from_slice(&s.lent.keys[..used]);
         copy.lent.times[..used].copy_from_slice(&s.lent.times[..used]);
         copy.lent.values[..used].copy_from_slice(&s.lent.values[..used]);
+        copy.lent.marks[..used].copy_from_slice(&s.lent.marks[..used]);
     };
     let ns = timing::restored(&mut copies, restore, |copy| {
         black_box(call(black_box(&mut copy.head), black_box(&mut copy.lent)));
@@ -119,6 +120,7 @@ impl Level {
             Case::Commit | Case::Abort => s.updated(last, 1, 2),
             // Two registers that nobody has written, so that an old snapshot meets no conflict.
             Case::CommitOld => s.updated(low, fresh, fresh + 1),
+            Case::CommitShared => s.shared(1),
             Case::ListGapped | Case::CheckpointGapped => return (self.gapped.clone(), 0),
             _ => return (self.whole.clone(), 0),
         };
@@ -134,7 +136,7 @@ impl Level {
             Case::Assign => on_heads(&s, |h, l, i| C::assign(h, l, n, key(i), ASSIGNED)),
             Case::Add => on_heads(&s, |h, l, i| C::add(h, l, n, key(i), RAISE)),
             Case::Read => reading(&s, |h, l, i| C::read(h, l, n, key(i))),
-            Case::Commit | Case::CommitOld => on_heads(&s, |h, l, _| C::commit(h, l, n, last + 1)),
+            Case::Commit | Case::CommitOld | Case::CommitShared => on_heads(&s, |h, l, _| C::commit(h, l, n, last + 1)),
             Case::Abort => on_heads(&s, |h, l, _| C::abort(h, l, n)),
             Case::Lookup => reading(&s, |h, l, i| C::lookup(h, l, key(i), last)),
             Case::List | Case::ListGapped => listing::<C>(&s),

@@ -1,6 +1,6 @@
 //! The journal store's calls but recover.
 
-use super::record::{self, Record, ABORT, BEGIN, COMMIT};
+use super::record::{self, Record, ABORT, ASSIGN, BEGIN, COMMIT};
 use super::running::{self, tally, Trace};
 use super::{accepted, found, given, list, refused, value, Effect};
 use crate::lent::JournalLent;
@@ -163,14 +163,14 @@ fn late_numbers(records: &[Record], s: u64) -> Vec<u32> {
 }
 
 /// Rule 3.6, asked only where somebody committed later than the snapshot. Who else wrote one of the keys is found
-/// first: often it is nobody.
-fn conflicts(records: &[Record], n: u32, keys: &[u32], snapshot: u64) -> bool {
+/// first: often it is nobody. An add meets only the keys that this one assigned.
+fn conflicts(records: &[Record], n: u32, keys: &[u32], assigned: &[u32], snapshot: u64) -> bool {
     // One bit for each key, by its low digits: most keys of others are told apart by it.
     let bit = |key: u32| 1u64 << (key % u64::BITS);
     let bits = keys.iter().fold(0, |bits, &key| bits | bit(key));
-    let is_ours = |key: u32| bits & bit(key) != 0 && keys.contains(&key);
-    let others =
-        records.iter().filter(|r| record::is_update(r) && is_ours(record::key(r)) && record::transaction(r) != n);
+    let met = |r: &Record| if record::kind(r) == ASSIGN { keys } else { assigned };
+    let is_ours = |r: &Record| bits & bit(record::key(r)) != 0 && met(r).contains(&record::key(r));
+    let others = records.iter().filter(|r| record::is_update(r) && is_ours(r) && record::transaction(r) != n);
     let mut numbers: Vec<u32> = others.map(record::transaction).collect();
     numbers.sort_unstable();
     let is_late = |r: &&Record| record::kind(r) == COMMIT && record::time(r) > snapshot;
@@ -183,7 +183,7 @@ pub fn commit(h: &mut JournalHead, lent: &mut JournalLent, n: u32, t: u64) -> An
         return refused(BAD_SHAPE);
     }
     let records = record::records(&lent.journal, h.used);
-    let (mut trace, mut keys) = (Trace::of(n), Vec::new());
+    let (mut trace, mut keys, mut assigned) = (Trace::of(n), Vec::new(), Vec::new());
     record::met(
         records,
         |r| record::transaction(r) == n,
@@ -191,6 +191,9 @@ pub fn commit(h: &mut JournalHead, lent: &mut JournalLent, n: u32, t: u64) -> An
             trace.step(r);
             if record::is_update(r) {
                 keys.push(record::key(r));
+            }
+            if record::kind(r) == ASSIGN {
+                assigned.push(record::key(r));
             }
         },
     );
@@ -201,7 +204,7 @@ pub fn commit(h: &mut JournalHead, lent: &mut JournalLent, n: u32, t: u64) -> An
     if t <= last {
         return refused(NOT_LATER);
     }
-    if trace.snapshot < last && conflicts(records, n, &keys, trace.snapshot) {
+    if trace.snapshot < last && conflicts(records, n, &keys, &assigned, trace.snapshot) {
         return refused(CONFLICT);
     }
     if room(lent) < h.used + 1 {

@@ -14,26 +14,41 @@ struct Open {
     number: u32,
     snapshot: u64,
     keys: [u32; KEYS],
+    /// The keys that were assigned too, not only added to.
+    assigned: [bool; KEYS],
     count: usize,
 }
 
 impl Open {
-    fn wrote(&self, key: u32) -> bool {
-        self.keys[..self.count].contains(&key)
+    fn row(&self, key: u32) -> Option<usize> {
+        self.keys[..self.count].iter().position(|&k| k == key)
+    }
+
+    /// A key that both wrote, unless both only added to it.
+    fn meets(&self, other: &Committed) -> bool {
+        self.row(other.key).is_some_and(|row| self.assigned[row] || other.assigned)
     }
 
     /// An update; false where it is a key too many.
-    fn note(&mut self, key: u32) -> bool {
-        if self.wrote(key) {
+    fn note(&mut self, key: u32, assigns: bool) -> bool {
+        if let Some(row) = self.row(key) {
+            self.assigned[row] |= assigns;
             return true;
         }
         if self.count == KEYS {
             return false;
         }
-        self.keys[self.count] = key;
+        (self.keys[self.count], self.assigned[self.count]) = (key, assigns);
         self.count += 1;
         true
     }
+}
+
+/// A key that a transaction committed.
+struct Committed {
+    key: u32,
+    time: u64,
+    assigned: bool,
 }
 
 /// What the records passed say.
@@ -44,15 +59,15 @@ struct Walk {
     above: u64,
     open: [Open; RUNNING],
     count: usize,
-    /// Keys committed, with their commit times, which rise.
-    committed: Vec<(u32, u64)>,
+    /// Keys committed; their times rise.
+    committed: Vec<Committed>,
     /// The transactions that ended by an abort, and at the end those that still run.
     dropped: Vec<u32>,
 }
 
 impl Walk {
     fn new(low: u64, records: usize) -> Self {
-        let free = Open { number: 0, snapshot: 0, keys: [0; KEYS], count: 0 };
+        let free = Open { number: 0, snapshot: 0, keys: [0; KEYS], assigned: [false; KEYS], count: 0 };
         let committed = Vec::with_capacity(records);
         Walk { low, last: low, above: 1, open: [free; RUNNING], count: 0, committed, dropped: Vec::new() }
     }
@@ -78,15 +93,16 @@ impl Walk {
 
     /// Whether somebody committed one of the keys later than the snapshot: only the newest commits are looked at.
     fn conflicts(&self, open: &Open) -> bool {
-        let later = self.committed.iter().rev().take_while(|c| c.1 > open.snapshot);
-        later.into_iter().any(|c| open.wrote(c.0))
+        let later = self.committed.iter().rev().take_while(|c| c.time > open.snapshot);
+        later.into_iter().any(|c| open.meets(c))
     }
 
     fn commit(&mut self, number: u32, time: u64) -> Option<()> {
         let i = self.find(number)?;
         (time > self.last && !self.conflicts(&self.open[i])).then_some(())?;
         let open = &self.open[i];
-        self.committed.extend(open.keys[..open.count].iter().map(|&key| (key, time)));
+        let written = open.keys[..open.count].iter().zip(open.assigned);
+        self.committed.extend(written.map(|(&key, assigned)| Committed { key, time, assigned }));
         self.last = time;
         self.close(i);
         Some(())
@@ -110,7 +126,7 @@ impl Walk {
             ABORT if blank && record::time(r) == 0 => self.abort(number),
             ASSIGN | ADD if record::key(r) != 0 && record::time(r) == 0 => {
                 let i = self.find(number)?;
-                self.open[i].note(record::key(r)).then_some(())
+                self.open[i].note(record::key(r), record::kind(r) == ASSIGN).then_some(())
             }
             _ => None,
         }

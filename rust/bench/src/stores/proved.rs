@@ -69,38 +69,38 @@ impl Calls<MapHead, MapLent> for Proved {
     }
 
     fn begin(h: &mut MapHead, l: &mut MapLent, t: u64) -> Answer {
-        replace_map(h, registers::map::begin(*h, &l.keys, &l.times, &l.values, t))
+        replace_map(h, registers::map::begin(*h, &l.keys, &l.times, &l.values, &l.marks, t))
     }
 
     fn assign(h: &mut MapHead, l: &mut MapLent, n: u32, k: u32, v: u32) -> Answer {
-        replace_map(h, registers::map::assign(*h, &l.keys, &l.times, &l.values, n, k, v))
+        replace_map(h, registers::map::assign(*h, &l.keys, &l.times, &l.values, &l.marks, n, k, v))
     }
 
     fn add(h: &mut MapHead, l: &mut MapLent, n: u32, k: u32, d: u32) -> Answer {
-        replace_map(h, registers::map::add(*h, &l.keys, &l.times, &l.values, n, k, d))
+        replace_map(h, registers::map::add(*h, &l.keys, &l.times, &l.values, &l.marks, n, k, d))
     }
 
     fn abort(h: &mut MapHead, l: &mut MapLent, n: u32) -> Answer {
-        replace_map(h, registers::map::abort(*h, &l.keys, &l.times, &l.values, n))
+        replace_map(h, registers::map::abort(*h, &l.keys, &l.times, &l.values, &l.marks, n))
     }
 
     fn commit(h: &mut MapHead, l: &mut MapLent, n: u32, t: u64) -> Answer {
-        replace_map(h, registers::map::commit(*h, &mut l.keys, &mut l.times, &mut l.values, n, t))
+        replace_map(h, registers::map::commit(*h, &mut l.keys, &mut l.times, &mut l.values, &mut l.marks, n, t))
     }
 
     fn read(h: &MapHead, l: &MapLent, n: u32, k: u32) -> Answer {
-        registers::map::read(*h, &l.keys, &l.times, &l.values, n, k)
+        registers::map::read(*h, &l.keys, &l.times, &l.values, &l.marks, n, k)
     }
 
     fn lookup(h: &MapHead, l: &MapLent, k: u32, t: u64) -> Answer {
-        registers::map::lookup(*h, &l.keys, &l.times, &l.values, k, t)
+        registers::map::lookup(*h, &l.keys, &l.times, &l.values, &l.marks, k, t)
     }
 
     fn list(h: &MapHead, l: &MapLent, t: u64, keys: &mut [u32], values: &mut [u32]) -> Answer {
-        registers::map::list(*h, &l.keys, &l.times, &l.values, t, keys, values)
+        registers::map::list(*h, &l.keys, &l.times, &l.values, &l.marks, t, keys, values)
     }
 
     fn checkpoint(h: &mut MapHead, l: &mut MapLent, t: u64) -> Answer {
-        replace_map(h, registers::map::checkpoint(*h, &mut l.keys, &mut l.times, &mut l.values, t))
+        replace_map(h, registers::map::checkpoint(*h, &mut l.keys, &mut l.times, &mut l.values, &mut l.marks, t))
     }
 }

@@ -2,7 +2,7 @@
 
 use super::small::{count, short_mostly, small_number, small_time};
 use crate::random::Random;
-use crate::reference::record::{Record, SIZE};
+use crate::reference::record::{Record, ADD, ASSIGN, SIZE};
 use crate::stores::cells::JournalCells;
 use registers::JournalHead;
 
@@ -32,6 +32,8 @@ fn plausible_records(random: &mut Random, length: usize, low: u64) -> Vec<Record
     let (mut last, mut next) = (low, 1);
     let mut running: Vec<u32> = Vec::new();
     let keys = random.pick(&[2, 6, 36, 40]);
+    // Among few assigns one of them is what decides a conflict.
+    let assigns = random.pick(&[2, 5]);
     let mut records = Vec::new();
     let weights = random.pick(&[[2, 5, 2, 1], [5, 3, 1, 1], [1, 40, 1, 0]]);
     for _ in 0..length {
@@ -44,8 +46,8 @@ fn plausible_records(random: &mut Random, length: usize, low: u64) -> Vec<Record
                 Record::new(1, running[running.len() - 1], 0, 0, random.between(last.saturating_sub(2).max(low), last))
             }
             1 => {
-                let key = 1 + random.below(keys) as u32;
-                Record::new(2 + random.below(2) as u8, running[place], key, random.below(5) as u32, 0)
+                let (key, kind) = (1 + random.below(keys) as u32, if random.once_in(assigns) { ASSIGN } else { ADD });
+                Record::new(kind, running[place], key, random.below(5) as u32, 0)
             }
             2 => {
                 last = last.saturating_add(1 + random.below(2));

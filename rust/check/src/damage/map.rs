@@ -5,6 +5,14 @@ use crate::random::Random;
 use crate::stores::cells::{MapCells, FREE};
 use registers::{MapHead, Slot, Slots};
 
+/// 0 and 1 as calls write them; now and then another number, which is a mark too.
+fn any_mark(random: &mut Random) -> u8 {
+    if random.once_in(8) {
+        return random.bits() as u8;
+    }
+    random.below(2) as u8
+}
+
 fn any_slot(random: &mut Random) -> Slot {
     let count = match random.below(120) {
         0 => 33,
@@ -18,6 +26,7 @@ fn any_slot(random: &mut Random) -> Slot {
     for row in 0..32 {
         slot.keys[row] = if apart { row as u32 } else { small_number(random) };
         slot.values[row] = random.below(9) as u32;
+        slot.marks[row] = any_mark(random);
     }
     slot
 }
@@ -52,14 +61,16 @@ fn with_rows(random: &mut Random, rows: usize) -> MapCells {
     let keys: Vec<u32> = (0..rows).map(|_| small_number(random)).collect();
     let mut times: Vec<u64> = (0..rows).map(|_| small_time(random)).collect();
     let mut values: Vec<u32> = (0..rows).map(|_| random.below(9) as u32).collect();
+    let mut marks: Vec<u8> = (0..rows).map(|_| any_mark(random)).collect();
     match random.below(100) {
         0 => times.push(0),
         1 => values.push(0),
+        2 => marks.push(0),
         _ => {}
     }
     let list = random.size(9);
     let (listed, contents) = (vec![77; list + usize::from(random.once_in(60))], vec![78; list]);
-    MapCells { head: any_head(random, rows), keys, times, values, listed, contents }
+    MapCells { head: any_head(random, rows), keys, times, values, marks, listed, contents }
 }
 
 /// Versions at the limit of section 2 and beyond, and slots that commit into them.
@@ -75,7 +86,7 @@ fn altered_real(random: &mut Random, pool: &[MapCells]) -> MapCells {
     let mut cells = pool[random.size(pool.len())].clone();
     let place = random.size(8);
     let row = random.size(cells.keys.len());
-    match random.below(9) {
+    match random.below(11) {
         0 => cells.head.slots.occupied ^= 1 << place,
         1 => cells.head.slots.slots[place] = any_slot(random),
         2 => cells.head.low = small_time(random),
@@ -83,7 +94,9 @@ fn altered_real(random: &mut Random, pool: &[MapCells]) -> MapCells {
         4 => cells.head.used = count(random, cells.keys.len(), 4096),
         5 => cells.times[row] = small_time(random),
         6 => cells.keys[row] = small_number(random),
-        7 => cells.head.next = random.pick(&[0, 1, 2, u32::MAX, u32::MAX - 1]),
+        7 => cells.marks[row] = any_mark(random),
+        8 => cells.head.slots.slots[place].marks[random.size(4)] = any_mark(random),
+        9 => cells.head.next = random.pick(&[0, 1, 2, u32::MAX, u32::MAX - 1]),
         _ => cells.head = any_head(random, cells.keys.len()),
     }
     cells

@@ -66,7 +66,7 @@ fn lent_part(random: &mut Random, whole: Room) -> Option<Room> {
         0 => room.journal = random.size(whole.journal + 1),
         1 => room.base[random.size(2)] /= 2,
         2 => room.base = room.base.map(|length| length / 2),
-        3 => room.versions[random.size(3)] /= 2,
+        3 => room.versions[random.size(4)] /= 2,
         4 => room.versions = room.versions.map(|length| length / 2),
         5 => room.list[random.size(2)] /= 2,
         _ => return None,

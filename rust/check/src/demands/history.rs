@@ -18,6 +18,16 @@ struct Transaction {
     updates: Vec<(u32, Effect)>,
 }
 
+impl Transaction {
+    fn wrote(&self, k: u32) -> bool {
+        self.updates.iter().any(|(key, _)| *key == k)
+    }
+
+    fn assigned(&self, k: u32) -> bool {
+        self.updates.iter().any(|(key, effect)| *key == k && matches!(effect, Effect::Assign(_)))
+    }
+}
+
 /// What has to be undone to forget a call.
 #[derive(Clone, Debug)]
 enum Event {
@@ -87,13 +97,24 @@ impl History {
         true
     }
 
-    /// Nobody may commit over a later change of the same key: the history would not be one of either order.
+    /// Whether a later commit than the transaction's snapshot changed a key that it changed, and how.
+    fn met_later(&self, transaction: &Transaction, how: impl Fn(&Transaction, &Transaction, u32) -> bool) -> bool {
+        let mut later = self.committed.iter().rev().take_while(|(time, _)| *time > transaction.snapshot);
+        let meets = |other: &Transaction, k: u32| other.wrote(k) && how(transaction, other, k);
+        later.any(|(_, other)| transaction.updates.iter().any(|(k, _)| meets(other, *k)))
+    }
+
+    /// A running transaction that changed what a later commit than its snapshot changed too.
+    pub fn shares_a_key(&self, n: u32) -> bool {
+        self.place(n).is_some_and(|place| self.met_later(&self.running[place], |_, _, _| true))
+    }
+
+    /// Nobody may commit over a later change of the same key: the history would not be one of either order. Adds alone
+    /// come to the same in either order.
     fn commit(&mut self, n: u32, t: u64) -> bool {
         let Some(place) = self.place(n) else { return false };
         let transaction = self.running.remove(place);
-        let later = self.committed.iter().rev().take_while(|(time, _)| *time > transaction.snapshot);
-        let wrote = |other: &Transaction, k: u32| other.updates.iter().any(|(key, _)| *key == k);
-        let conflict = later.into_iter().any(|(_, other)| transaction.updates.iter().any(|(k, _)| wrote(other, *k)));
+        let conflict = self.met_later(&transaction, |one, other, k| one.assigned(k) || other.assigned(k));
         let rises = self.committed.last().is_none_or(|(time, _)| *time < t);
         self.committed.push((t, transaction));
         self.since.push(Event::Committed);

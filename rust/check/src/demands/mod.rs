@@ -21,6 +21,8 @@ pub struct Checks {
     pub cuts: u64,
     /// Ends of transactions that had to find a record.
     pub ends: u64,
+    /// Accepted commits of keys that a later commit than the snapshot wrote too: nothing but adds.
+    pub shared: u64,
 }
 
 #[derive(Clone)]
@@ -52,6 +54,11 @@ fn value_of(answer: Answer) -> Option<u32> {
 /// A listed answer's rows.
 fn rows(count: u64, listed: &[u32], contents: &[u32]) -> Vec<(u32, u32)> {
     listed.iter().copied().zip(contents.iter().copied()).take(count as usize).collect()
+}
+
+/// A commit of a key that somebody else has changed meanwhile.
+fn commits_shared(history: &History, call: Call) -> bool {
+    matches!(call, Call::Commit(n, _) if history.shares_a_key(n))
 }
 
 /// Demands 2 and 3: an accepted call answers as the history does.
@@ -106,6 +113,7 @@ impl Demands {
             return Ok(());
         }
         if let Some(history) = &mut self.journal {
+            self.checks.shared += u64::from(commits_shared(history, call));
             let list = rows(answer.value, &cells.listed, &cells.contents);
             same_as_history(history, call, answer, &list)?;
             self.checks.by_history += u64::from(call.only_answers());
@@ -150,6 +158,7 @@ impl Demands {
         if answer.number != 0 {
             return Ok(());
         }
+        self.checks.shared += u64::from(commits_shared(&self.map, call));
         let list = rows(answer.value, &cells.listed, &cells.contents);
         same_as_history(&mut self.map, call, answer, &list)?;
         self.checks.by_history += u64::from(call.only_answers());

@@ -65,17 +65,19 @@ struct MapStore {
     keys: Vec<u32>,
     times: Vec<u64>,
     values: Vec<u32>,
+    marks: Vec<u8>,
 }
 
 impl MapStore {
     fn empty() -> MapStore {
         let slots = Slots { occupied: 0, slots: [ZERO_SLOT; 8] };
         let head = MapHead { low: 0, last: 0, next: 1, used: 0, slots };
-        MapStore { head, keys: vec![7; 4096], times: vec![7; 4096], values: vec![7; 4096] }
+        MapStore { head, keys: vec![7; 4096], times: vec![7; 4096], values: vec![7; 4096], marks: vec![7; 4096] }
     }
 
     fn call<R>(&mut self, act: impl FnOnce(&mut MapHead, &mut map::Lent) -> R) -> R {
-        let lent = &mut map::Lent { keys: &mut self.keys, times: &mut self.times, values: &mut self.values };
+        let (keys, times) = (&mut self.keys, &mut self.times);
+        let lent = &mut map::Lent { keys, times, values: &mut self.values, marks: &mut self.marks };
         act(&mut self.head, lent)
     }
 

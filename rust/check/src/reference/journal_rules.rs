@@ -99,13 +99,21 @@ impl Journal<'_> {
         own.fold(at_snapshot, effect)
     }
 
+    /// T-01: no record of it assigns the key.
+    fn only_added(&self, n: u32, k: u32) -> bool {
+        !self.records.iter().any(|r| r.kind == ASSIGN && r.transaction == n && r.key == k)
+    }
+
     /// 3.6: some commit with a time later than its snapshot is of a transaction that wrote a key this one has written.
+    /// T-01: a shared key is no conflict if both used nothing but add on it.
     pub fn conflicts(&self, n: u32) -> bool {
         let snapshot = self.snapshot(n).unwrap_or(0);
         let mine = self.keys_written(n);
         let later = self.records.iter().filter(|r| r.kind == COMMIT && r.time > snapshot);
         let others: BTreeSet<u32> = later.map(|r| r.transaction).collect();
-        self.records.iter().any(|r| r.is_update() && mine.contains(&r.key) && others.contains(&r.transaction))
+        let shared = self.records.iter().filter(|r| r.is_update() && mine.contains(&r.key));
+        let meets = |r: &Record| !self.only_added(n, r.key) || !self.only_added(r.transaction, r.key);
+        shared.into_iter().any(|r| others.contains(&r.transaction) && meets(r))
     }
 
     /// 3.9: the records that a checkpoint at T keeps, in order: those of transactions that run or committed after T,

@@ -1,14 +1,15 @@
 //! Section 3 for the map store: what versions and slots say.
 
-use super::KEYS_WRITTEN;
+use super::{added, KEYS_WRITTEN};
 use registers::{MapHead, Slot};
 use std::collections::BTreeSet;
 
-/// The used rows of the three version columns.
+/// The used rows of the four version columns.
 pub struct Versions<'a> {
     pub keys: &'a [u32],
     pub times: &'a [u64],
     pub values: &'a [u32],
+    pub marks: &'a [u8],
 }
 
 impl Versions<'_> {
@@ -40,10 +41,11 @@ impl Versions<'_> {
         (0..self.keys.len()).filter(|row| self.times[*row] > t || newest.contains(row)).collect()
     }
 
-    /// 3.6: a version of a key of the slot is later than its snapshot.
+    /// 3.6 and T-01: a version of a key of the slot is later than its snapshot, and not both were made by adds only.
     pub fn conflict(&self, slot: &Slot) -> bool {
         let later = (0..self.keys.len()).filter(|&row| self.times[row] > slot.snapshot);
-        later.into_iter().any(|row| row_of(slot, self.keys[row]).is_some())
+        let meets = |row: usize, own: usize| self.marks[row] == 0 || !only_added(slot, own);
+        later.into_iter().any(|row| row_of(slot, self.keys[row]).is_some_and(|own| meets(row, own)))
     }
 }
 
@@ -76,6 +78,25 @@ pub fn first_rows(slot: &Slot) -> Vec<usize> {
     (0..slot.count).filter(|&row| row_of(slot, slot.keys[row]) == Some(row)).collect()
 }
 
+/// T-01: the transaction used nothing but add on the key of this row. 0 is unmarked, any other number marked.
+pub fn only_added(slot: &Slot, row: usize) -> bool {
+    slot.marks[row] != 0
+}
+
+/// What the effects in a row of a slot make of a value: their total is added, or what they assigned stands.
+pub fn settled(slot: &Slot, row: usize, old: Option<u32>) -> u32 {
+    if only_added(slot, row) {
+        return added(old, slot.values[row]);
+    }
+    slot.values[row]
+}
+
 /// 3.8: a freed slot is all zero.
-pub const ZERO_SLOT: Slot =
-    Slot { number: 0, snapshot: 0, count: 0, keys: [0; KEYS_WRITTEN], values: [0; KEYS_WRITTEN] };
+pub const ZERO_SLOT: Slot = Slot {
+    number: 0,
+    snapshot: 0,
+    count: 0,
+    keys: [0; KEYS_WRITTEN],
+    values: [0; KEYS_WRITTEN],
+    marks: [0; KEYS_WRITTEN],
+};

@@ -26,12 +26,20 @@ struct Walk {
     highest: u32,
     running: BTreeMap<u32, Running>,
     /// Each commit so far: its time and the keys that its transaction wrote.
-    commits: Vec<(u64, BTreeSet<u32>)>,
+    commits: Vec<(u64, Keys)>,
 }
+
+/// The keys that a transaction wrote; true where it used nothing but add on the key.
+type Keys = BTreeMap<u32, bool>;
 
 struct Running {
     snapshot: u64,
-    keys: BTreeSet<u32>,
+    keys: Keys,
+}
+
+/// T-01: a key that both wrote, and that not both used nothing but add on.
+fn meet(one: &Keys, other: &Keys) -> bool {
+    one.iter().any(|(key, added)| other.get(key).is_some_and(|other_added| !added || !other_added))
 }
 
 impl Walk {
@@ -62,24 +70,24 @@ impl Walk {
             return false;
         }
         self.highest = n;
-        self.running.insert(n, Running { snapshot: time, keys: BTreeSet::new() });
+        self.running.insert(n, Running { snapshot: time, keys: Keys::new() });
         true
     }
 
     fn takes_update(&mut self, record: &Record) -> bool {
         let Some(running) = self.running.get_mut(&record.transaction) else { return false };
-        let keys_full = !running.keys.contains(&record.key) && running.keys.len() >= KEYS_WRITTEN;
+        let keys_full = !running.keys.contains_key(&record.key) && running.keys.len() >= KEYS_WRITTEN;
         if record.key == 0 || record.time != 0 || keys_full {
             return false;
         }
-        running.keys.insert(record.key);
+        *running.keys.entry(record.key).or_insert(true) &= record.kind == ADD;
         true
     }
 
     fn takes_commit(&mut self, record: &Record) -> bool {
         let Some(running) = self.running.get(&record.transaction) else { return false };
         let later = self.commits.iter().filter(|(time, _)| *time > running.snapshot);
-        let conflict = later.into_iter().any(|(_, keys)| !keys.is_disjoint(&running.keys));
+        let conflict = later.into_iter().any(|(_, keys)| meet(keys, &running.keys));
         if record.key != 0 || record.value != 0 || record.time <= self.last || conflict {
             return false;
         }

@@ -83,6 +83,7 @@ fn take_slot(words: &[&str], cells: &mut MapCells) -> Parsed<()> {
     slot.count = number_field(words, "count")?;
     slot.keys = numbers_field(words, "keys")?;
     slot.values = numbers_field(words, "values")?;
+    slot.marks = numbers_field(words, "marks")?;
     Ok(())
 }
 
@@ -110,6 +111,7 @@ fn take_cells(name: &str, words: &[&str], cells: &mut (JournalCells, MapCells)) 
         "version-keys" => map.keys = numbers(words)?,
         "version-times" => map.times = numbers(words)?,
         "version-values" => map.values = numbers(words)?,
+        "version-marks" => map.marks = numbers(words)?,
         "map-list-keys" => map.listed = numbers(words)?,
         "map-list-contents" => map.contents = numbers(words)?,
         _ => return Ok(false),
@@ -166,7 +168,7 @@ mod tests {
 
     #[test]
     fn a_sequence_reads_back() {
-        let room = Room { base: [1, 2], journal: 100, versions: [3, 4, 5], list: [6, 7] };
+        let room = Room { base: [1, 2], journal: 100, versions: [3, 4, 5, 6], list: [7, 8] };
         let calls = [
             Call::Begin(u64::MAX),
             Call::Read(1, 2),

@@ -81,16 +81,18 @@ fn map_words(cells: &MapCells) -> String {
         head.low, head.last, head.next, head.used, head.slots.occupied
     );
     for (place, slot) in head.slots.slots.iter().enumerate().filter(|(_, slot)| **slot != FREE) {
-        let (keys, values) = (words(&slot.keys, ","), words(&slot.values, ","));
+        let [keys, values] = [slot.keys, slot.values].map(|column| words(&column, ","));
+        let marks = words(&slot.marks, ",");
         let (number, snapshot, count) = (slot.number, slot.snapshot, slot.count);
         let _ = writeln!(
             text,
-            "slot place={place} number={number} snapshot={snapshot} count={count} keys={keys} values={values}"
+            "slot place={place} number={number} snapshot={snapshot} count={count} keys={keys} values={values} marks={marks}"
         );
     }
     text += &column_words("version-keys", &cells.keys);
     text += &column_words("version-times", &cells.times);
     text += &column_words("version-values", &cells.values);
+    text += &column_words("version-marks", &cells.marks);
     text += &column_words("map-list-keys", &cells.listed);
     text += &column_words("map-list-contents", &cells.contents);
     text

@@ -124,7 +124,7 @@ fn room_within(random: &mut Random, capacity: Room, now: Room) -> Room {
     match random.below(6) {
         0 => room.journal = part(random, capacity.journal),
         1 => room.base = [part(random, capacity.base[0]); 2],
-        2 => room.versions = [part(random, capacity.versions[0]); 3],
+        2 => room.versions = [part(random, capacity.versions[0]); 4],
         3 => room.list = [part(random, capacity.list[0]); 2],
         4 => unequal_column(random, &mut room),
         _ => {}
@@ -138,7 +138,7 @@ fn room_within(random: &mut Random, capacity: Room, now: Room) -> Room {
 fn unequal_column(random: &mut Random, room: &mut Room) {
     let Room { base, versions, list, .. } = room;
     let columns = base.iter_mut().chain(versions).chain(list);
-    let column = columns.into_iter().nth(random.size(7));
+    let column = columns.into_iter().nth(random.size(8));
     column.into_iter().for_each(|length| *length = length.saturating_sub(1));
 }
 

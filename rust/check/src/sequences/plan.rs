@@ -33,6 +33,7 @@ pub struct Plan {
 // In the order of `NAMES`: begin, read, lookup, assign, add, abort, commit, list, checkpoint, recover.
 const ORDINARY: [u64; 10] = [14, 6, 6, 18, 18, 4, 16, 8, 6, 4];
 const CROWDED: [u64; 10] = [40, 3, 3, 12, 12, 6, 8, 6, 6, 4];
+const ADDING: [u64; 10] = [18, 6, 6, 4, 26, 4, 18, 8, 6, 4];
 const WIDE: [u64; 10] = [4, 3, 3, 40, 40, 1, 4, 3, 1, 1];
 const FILLING: [u64; 10] = [200, 20, 20, 1000, 1000, 30, 240, 1, 0, 0];
 const PILING_UP: [u64; 10] = [200, 10, 10, 1000, 1000, 30, 160, 1, 10, 0];
@@ -40,7 +41,7 @@ pub const AT_LIMITS: [u64; 10] = [14, 3, 4, 20, 20, 3, 14, 3, 2, 3];
 
 /// Columns of equal length, and bytes for so many records and a part of one.
 fn equal_room(records: usize, part: usize, base: usize, versions: usize, list: usize) -> Room {
-    Room { base: [base; 2], journal: records * 24 + part, versions: [versions; 3], list: [list; 2] }
+    Room { base: [base; 2], journal: records * 24 + part, versions: [versions; 4], list: [list; 2] }
 }
 
 /// Mostly an empty store as made; now and then one whose earlier life has left low or floor high.
@@ -74,7 +75,7 @@ fn small_plan(random: &mut Random) -> Plan {
     let part = random.size(24);
     let start = empty_start(random, equal_room(records, part, base, versions, list));
     let (keys, steps) = (few_keys(random), 4 + random.size(46));
-    let weights = if random.once_in(5) { CROWDED } else { ORDINARY };
+    let weights = random.pick(&[CROWDED, ADDING, ADDING, ORDINARY, ORDINARY]);
     let (rooms_change, one_alone) = (random.once_in(6), random.once_in(12));
     Plan { start, keys, steps, weights, rooms_change, one_alone, filling: false, versions_pile_up: false }
 }

@@ -49,7 +49,8 @@ fn base_rows(cells: &Cells) -> usize {
 }
 
 fn version_rows(cells: &Cells) -> usize {
-    cells.1.keys.len().min(cells.1.times.len()).min(cells.1.values.len())
+    let map = &cells.1;
+    map.keys.len().min(map.times.len()).min(map.values.len()).min(map.marks.len())
 }
 
 fn list_rows(cells: &Cells) -> usize {
@@ -99,6 +100,7 @@ fn without_versions(start: &Start, from: usize, size: usize) -> Start {
         map.keys.drain(from..from + size);
         map.times.drain(from..from + size);
         map.values.drain(from..from + size);
+        map.marks.drain(from..from + size);
         map.head.used = used_after(map.head.used, from, size);
     })
 }

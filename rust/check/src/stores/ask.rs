@@ -66,18 +66,19 @@ pub fn library_map(call: Call, cells: &mut MapCells, room: &Room) -> Option<Answ
     let k = lent(&mut cells.keys, room.versions[0]);
     let t = lent(&mut cells.times, room.versions[1]);
     let v = lent(&mut cells.values, room.versions[2]);
+    let m = lent(&mut cells.marks, room.versions[3]);
     let l = lent(&mut cells.listed, room.list[0]);
     let c = lent(&mut cells.contents, room.list[1]);
     let result = match call {
-        Call::Begin(at) => calls::begin(h, k, t, v, at),
-        Call::Read(n, key) => return Some(calls::read(h, k, t, v, n, key)),
-        Call::Lookup(key, at) => return Some(calls::lookup(h, k, t, v, key, at)),
-        Call::Assign(n, key, value) => calls::assign(h, k, t, v, n, key, value),
-        Call::Add(n, key, d) => calls::add(h, k, t, v, n, key, d),
-        Call::Abort(n) => calls::abort(h, k, t, v, n),
-        Call::Commit(n, at) => calls::commit(h, k, t, v, n, at),
-        Call::List(at) => return Some(calls::list(h, k, t, v, at, l, c)),
-        Call::Checkpoint(at) => calls::checkpoint(h, k, t, v, at),
+        Call::Begin(at) => calls::begin(h, k, t, v, m, at),
+        Call::Read(n, key) => return Some(calls::read(h, k, t, v, m, n, key)),
+        Call::Lookup(key, at) => return Some(calls::lookup(h, k, t, v, m, key, at)),
+        Call::Assign(n, key, value) => calls::assign(h, k, t, v, m, n, key, value),
+        Call::Add(n, key, d) => calls::add(h, k, t, v, m, n, key, d),
+        Call::Abort(n) => calls::abort(h, k, t, v, m, n),
+        Call::Commit(n, at) => calls::commit(h, k, t, v, m, n, at),
+        Call::List(at) => return Some(calls::list(h, k, t, v, m, at, l, c)),
+        Call::Checkpoint(at) => calls::checkpoint(h, k, t, v, m, at),
         Call::Recover(_) => return None,
     };
     cells.head = result.head;
@@ -89,7 +90,8 @@ pub fn reference_map(call: Call, cells: &mut MapCells, room: &Room) -> Option<An
     let head = &mut cells.head;
     let keys = lent(&mut cells.keys, room.versions[0]);
     let times = lent(&mut cells.times, room.versions[1]);
-    let store = &mut map::Lent { keys, times, values: lent(&mut cells.values, room.versions[2]) };
+    let values = lent(&mut cells.values, room.versions[2]);
+    let store = &mut map::Lent { keys, times, values, marks: lent(&mut cells.marks, room.versions[3]) };
     let listed = lent(&mut cells.listed, room.list[0]);
     let contents = lent(&mut cells.contents, room.list[1]);
     Some(answer_of(match call {

@@ -99,7 +99,7 @@ fn whole_room(journal: &JournalCells, map: &MapCells) -> Room {
     Room {
         base: [journal.keys.len(), journal.values.len()],
         journal: journal.bytes.len(),
-        versions: [map.keys.len(), map.times.len(), map.values.len()],
+        versions: [map.keys.len(), map.times.len(), map.values.len(), map.marks.len()],
         list: [journal.listed.len().max(map.listed.len()), journal.contents.len().max(map.contents.len())],
     }
 }

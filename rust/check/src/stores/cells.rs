@@ -10,8 +10,8 @@ pub struct Room {
     pub base: [usize; 2],
     /// Bytes of the journal.
     pub journal: usize,
-    /// Version keys, times and values.
-    pub versions: [usize; 3],
+    /// Version keys, times, values and marks.
+    pub versions: [usize; 4],
     /// The list's keys and contents.
     pub list: [usize; 2],
 }
@@ -34,11 +34,12 @@ pub struct MapCells {
     pub keys: Vec<u32>,
     pub times: Vec<u64>,
     pub values: Vec<u32>,
+    pub marks: Vec<u8>,
     pub listed: Vec<u32>,
     pub contents: Vec<u32>,
 }
 
-pub const FREE: Slot = Slot { number: 0, snapshot: 0, count: 0, keys: [0; 32], values: [0; 32] };
+pub const FREE: Slot = Slot { number: 0, snapshot: 0, count: 0, keys: [0; 32], values: [0; 32], marks: [0; 32] };
 
 pub fn empty_head(low: u64, floor: u32) -> JournalHead {
     JournalHead { low, floor, base_rows: 0, used: 0 }
@@ -81,7 +82,8 @@ impl MapCells {
     pub fn none() -> MapCells {
         let nothing = || Vec::new();
         let (keys, values, listed, contents) = (nothing(), nothing(), nothing(), nothing());
-        MapCells { head: empty_map_head(0, 1), keys, times: Vec::new(), values, listed, contents }
+        let (times, marks) = (Vec::new(), Vec::new());
+        MapCells { head: empty_map_head(0, 1), keys, times, values, marks, listed, contents }
     }
 
     /// An empty store; every cell beyond the counts holds junk.
@@ -91,6 +93,7 @@ impl MapCells {
             keys: junk_u32(random, capacity.versions[0]),
             times: (0..capacity.versions[1] + MARGIN).map(|_| random.below(9)).collect(),
             values: junk_u32(random, capacity.versions[2]),
+            marks: (0..capacity.versions[3] + MARGIN).map(|_| random.below(3) as u8).collect(),
             listed: junk_u32(random, capacity.list[0]),
             contents: junk_u32(random, capacity.list[1]),
         }

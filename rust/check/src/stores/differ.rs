@@ -57,6 +57,7 @@ pub fn same_map(expected: &MapCells, got: &MapCells) -> Result<(), Difference> {
     same_column("version keys", &expected.keys, &got.keys)?;
     same_column("version times", &expected.times, &got.times)?;
     same_column("version values", &expected.values, &got.values)?;
+    same_column("version marks", &expected.marks, &got.marks)?;
     same_column("list keys", &expected.listed, &got.listed)?;
     same_column("list contents", &expected.contents, &got.contents)
 }

@@ -1,4 +1,4 @@
--- `registers::about::slot_from` meets its contract: three fields, then the two columns. Assumes nothing.
+-- `registers::about::slot_from` meets its contract: three fields, then the three columns. Assumes nothing.
 use borrow.Author.Needs.{needs}
 use Rattle.registers.proofs.about.slot_from.Statement.{statement}
 use Rattle.registers.proofs.about.slot_from.Tie as tie
@@ -21,20 +21,35 @@ add-counted-from-3 c = search needs
 counted-from-requires-2 : tie.Need-counted-from-requires-2
 counted-from-requires-2 c κs = search needs
 
-add-t4 : tie.Need-add-t4
-add-t4 c = search needs
+add-marked-from : tie.Need-add-marked-from
+add-marked-from c = search needs
 
-cast-t7 : tie.Need-cast-t7
-cast-t7 c = search needs
+cast-marked-from : tie.Need-cast-marked-from
+cast-marked-from c = search needs
 
-add-t6 : tie.Need-add-t6
-add-t6 c = search needs
+mul-marked-from : tie.Need-mul-marked-from
+mul-marked-from c = search needs
 
-cast-t8 : tie.Need-cast-t8
-cast-t8 c = search needs
+add-marked-from-2 : tie.Need-add-marked-from-2
+add-marked-from-2 c = search needs
+
+marked-from-requires : tie.Need-marked-from-requires
+marked-from-requires c κs = search needs
+
+add-t5 : tie.Need-add-t5
+add-t5 c = search needs
+
+cast-t9 : tie.Need-cast-t9
+cast-t9 c = search needs
+
+add-t8 : tie.Need-add-t8
+add-t8 c = search needs
+
+cast-t10 : tie.Need-cast-t10
+cast-t10 c = search needs
 
 returns : tie.Need-returns
-returns c = rw (c .counted-from2 .ensures, c .before .counted-from .ensures)
+returns c = rw (c .marked-from .ensures, c .before .counted-from2 .ensures, c .before .before .counted-from .ensures)
 
 pub slot-from-spec : {M : Type 1} → statement M
 slot-from-spec =
@@ -46,8 +61,13 @@ slot-from-spec =
     cast-counted-from
     add-counted-from-3
     counted-from-requires-2
-    add-t4
-    cast-t7
-    add-t6
-    cast-t8
+    add-marked-from
+    cast-marked-from
+    mul-marked-from
+    add-marked-from-2
+    marked-from-requires
+    add-t5
+    cast-t9
+    add-t8
+    cast-t10
     returns)

@@ -13,11 +13,11 @@ use Rattle.registers.proofs.about.slots_from.Statement.{statement}
 use Rattle.registers.proofs.about.slots_from.Tie as tie
 
 turn : (slots : List Slot) (s : Slot) (at i : ℕ) (whole : List Slot) → i < 8 → length slots ≡ 8 → s ≡ slotFrom at
-    → take i slots ++ slotsFrom at (8 - i) ≡ whole → take (i + 1) (set slots i s) ++ slotsFrom (at + 67) (8 - (i + 1)) ≡ whole
+    → take i slots ++ slotsFrom at (8 - i) ≡ whole → take (i + 1) (set slots i s) ++ slotsFrom (at + 99) (8 - (i + 1)) ≡ whole
 unfolding slotsFrom
 turn slots s at i whole l n e h =
     let w : 8 - i ≡ suc (8 - (i + 1)) = omega arith in
-    rw e (laid slots i (slotFrom at) (slotsFrom (at + 67) (8 - (i + 1))) whole (omega arith) (rw w at h))
+    rw e (laid slots i (slotFrom at) (slotsFrom (at + 99) (8 - (i + 1))) whole (omega arith) (rw w at h))
 
 finish : (slots : List Slot) (at i : ℕ) (whole : List Slot) → 8 ≤ i → length slots ≡ 8 → take i slots ++ slotsFrom at (8 - i) ≡ whole → slots ≡ whole
 unfolding slotsFrom
@@ -27,7 +27,7 @@ finish slots at i whole l n e =
 
 abbrev Inv-loop : tie.InvT-loop
 Inv-loop place slots₀ at₀ i₀ slots at i =
-    (i ≤ 8) × (at ≡ place + 67 * i) × (length slots ≡ 8) × (take i slots ++ slotsFrom at (8 - i) ≡ slotsFrom place 8)
+    (i ≤ 8) × (at ≡ place + 99 * i) × (length slots ≡ 8) × (take i slots ++ slotsFrom at (8 - i) ≡ slotsFrom place 8)
 
 abbrev μ-loop : tie.MeasureT-loop
 μ-loop place slots₀ at₀ i₀ slots at i = 8 - i
