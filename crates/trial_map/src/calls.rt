@@ -35,7 +35,14 @@ fn numbered(next: u32) -> MapResult {
 }
 
 // The list at t into so many rows, or one of the rows after it.
-fn listed(h: MapHead, keys: &[u32], times: &[u64], values: &[u32], call: Call) -> Answer {
+fn listed(
+    h: MapHead,
+    keys: &[u32],
+    times: &[u64],
+    values: &[u32],
+    marks: &[u8],
+    call: Call,
+) -> Answer {
     let lent = rows::lent(call.b);
     let mut listed = [rows::MARK; rows::ROWS];
     let mut contents = [rows::MARK; rows::ROWS];
@@ -44,6 +51,7 @@ fn listed(h: MapHead, keys: &[u32], times: &[u64], values: &[u32], call: Call) -
         keys,
         times,
         values,
+        marks,
         call.a,
         &mut listed[0..lent],
         &mut contents[0..lent],
@@ -52,39 +60,53 @@ fn listed(h: MapHead, keys: &[u32], times: &[u64], values: &[u32], call: Call) -
 }
 
 // The calls that change nothing.
-fn asked(h: MapHead, keys: &[u32], times: &[u64], values: &[u32], call: Call) -> Answer {
+fn asked(
+    h: MapHead,
+    keys: &[u32],
+    times: &[u64],
+    values: &[u32],
+    marks: &[u8],
+    call: Call,
+) -> Answer {
     let word = call.word;
     if word == Call::READ {
-        return registers_map_read(h, keys, times, values, call.n, call.k);
+        return registers_map_read(h, keys, times, values, marks, call.n, call.k);
     }
     if word == Call::LOOKUP {
-        return registers_map_lookup(h, keys, times, values, call.n, call.b);
+        return registers_map_lookup(h, keys, times, values, marks, call.n, call.b);
     }
     if word == Call::LIST {
-        return listed(h, keys, times, values, call);
+        return listed(h, keys, times, values, marks, call);
     }
     Answer::alone(Call::NO_CALL)
 }
 
 // The calls that change no version, and an empty store.
-fn noted(h: MapHead, keys: &[u32], times: &[u64], values: &[u32], call: Call) -> MapResult {
+fn noted(
+    h: MapHead,
+    keys: &[u32],
+    times: &[u64],
+    values: &[u32],
+    marks: &[u8],
+    call: Call,
+) -> MapResult {
     let word = call.word;
     if word == Call::BEGIN {
-        return registers_map_begin(h, keys, times, values, call.a);
+        return registers_map_begin(h, keys, times, values, marks, call.a);
     }
     if word == Call::ASSIGN {
-        return registers_map_assign(h, keys, times, values, call.n, call.k, call.v);
+        return registers_map_assign(h, keys, times, values, marks, call.n, call.k, call.v);
     }
     if word == Call::ADD {
-        return registers_map_add(h, keys, times, values, call.n, call.k, call.v);
+        return registers_map_add(h, keys, times, values, marks, call.n, call.k, call.v);
     }
     if word == Call::ABORT {
-        return registers_map_abort(h, keys, times, values, call.n);
+        return registers_map_abort(h, keys, times, values, marks, call.n);
     }
     if word == Call::STORE {
         return numbered(call.n);
     }
-    unchanged(h, asked(h, keys, times, values, call))
+    unchanged(h, asked(h, keys, times, values, marks, call))
 }
 
 // What a line asks.
@@ -93,24 +115,27 @@ pub(crate) fn turn(
     keys: &mut [u32; rows::ROWS],
     times: &mut [u64; rows::ROWS],
     values: &mut [u32; rows::ROWS],
+    marks: &mut [u8; rows::ROWS],
     call: Call,
 ) -> MapResult {
     let word = call.word;
     if word == Call::COMMIT {
-        return registers_map_commit(h, keys, times, values, call.n, call.b);
+        return registers_map_commit(h, keys, times, values, marks, call.n, call.b);
     }
     if word == Call::CHECKPOINT {
-        return registers_map_checkpoint(h, keys, times, values, call.a);
+        return registers_map_checkpoint(h, keys, times, values, marks, call.a);
     }
-    noted(h, keys, times, values, call)
+    noted(h, keys, times, values, marks, call)
 }
 
 // A slot added to a sum.
 fn slot_sum(sum: u64, s: Slot) -> u64 {
     let keys = s.keys;
     let values = s.values;
+    let marks = s.marks;
     let head = sums::three(sum, s.number as u64, s.snapshot, s.count as u64);
-    sums::of_column(sums::of_column(head, &keys), &values)
+    let rows = sums::of_column(sums::of_column(head, &keys), &values);
+    sums::of_bytes(rows, &marks)
 }
 
 // The eight slots added to a sum.
@@ -130,9 +155,11 @@ pub(crate) fn sum(
     keys: &[u32; rows::ROWS],
     times: &[u64; rows::ROWS],
     values: &[u32; rows::ROWS],
+    marks: &[u8; rows::ROWS],
 ) -> u64 {
     let slots = h.slots;
     let head = sums::three(h.low, h.last, h.next as u64, h.used as u64);
-    let columns = sums::of_column(sums::of_times(sums::of_column(head, keys), times), values);
+    let versions = sums::of_column(sums::of_times(sums::of_column(head, keys), times), values);
+    let columns = sums::of_bytes(versions, marks);
     slots_sum(sums::three(columns, slots.occupied as u64, 0, 0), slots)
 }

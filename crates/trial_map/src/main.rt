@@ -16,14 +16,17 @@ fn run(script: &[u8]) {
     let mut keys = [0u32; rows::ROWS];
     let mut times = [0u64; rows::ROWS];
     let mut values = [0u32; rows::ROWS];
+    let mut marks = [0u8; rows::ROWS];
     let mut run = Run::new(Call::MAP);
     let mut head = MapHead::empty();
     while run.goes(script) {
         run = run.read(script);
         if run.play.asks {
-            let o = calls::turn(head, &mut keys, &mut times, &mut values, run.line.call);
+            let call = run.line.call;
+            let o = calls::turn(head, &mut keys, &mut times, &mut values, &mut marks, call);
             head = o.head;
-            run = run.judged(script, o.answer, calls::sum(head, &keys, &times, &values));
+            let sum = calls::sum(head, &keys, &times, &values, &marks);
+            run = run.judged(script, o.answer, sum);
         }
     }
     run.ended();

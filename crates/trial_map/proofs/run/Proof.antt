@@ -6,10 +6,10 @@ use Rattle.trial_map.proofs.run.Statement.{statement}
 use Rattle.trial_map.proofs.run.Tie as tie
 
 abbrev Inv-loop : tie.InvT-loop
-Inv-loop script keys₀ times₀ values₀ run₀ head₀ keys times values run head = Unit {0}
+Inv-loop script keys₀ times₀ values₀ marks₀ run₀ head₀ keys times values marks run head = Unit {0}
 
 abbrev μ-loop : tie.MeasureT-loop
-μ-loop script keys₀ times₀ values₀ run₀ head₀ keys times values run head = left run
+μ-loop script keys₀ times₀ values₀ marks₀ run₀ head₀ keys times values marks run head = left run
 
 loop-less-2 : tie.Need-loop-less-2 Inv-loop μ-loop
 loop-less-2 c =
@@ -18,8 +18,8 @@ loop-less-2 c =
 
 loop-less : tie.Need-loop-less Inv-loop μ-loop
 loop-less c =
-    let after-turn = c .before .before .before .before .before .before in
-    let r = after-turn .before .before .before .before .before in
+    let after-turn = c .before .before .before .before .before .before .before in
+    let r = after-turn .before .before .before .before .before .before .before in
     let g = r .before .before in
     rw (judged-left _ _ _ (c .judged .ensures)) (read-left _ _ (g .goes .ensures) (r .before .if1 .taken) (r .read .ensures))
 
