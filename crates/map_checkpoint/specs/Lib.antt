@@ -1,2 +1,5 @@
--- What the steps of the call make of the cells, and the laws that lead from there to its contract, which is in `map_store`.
+-- What a reader must believe: the parts of the call; its contract is in `map_store`.
 pub mod Checkpoint
+-- Laws of it, which lead to the contract, and that no second answer satisfies that of `keep_from`.
+pub mod CheckpointLaws
+pub mod Unique

@@ -1,4 +1,6 @@
 // The map store's checkpoint: versions that no snapshot from a time on can see are dropped. Refusals 1, 4, 5, 9.
+mod keep;
+
 ghost use Rattle.answer.specs.Reply.{ofDone};
 ghost use Rattle.versions.specs.Versions.{columns};
 ghost use Rattle.map_store.specs.Contracts.{Checkpointed};
@@ -31,7 +33,7 @@ pub fn checkpoint(
     if slots.holds(t) {
         return map_store::refused(h, Refusal::Held);
     }
-    let used = newest::keep_from(keys, times, values, marks, h.used, t);
+    let used = keep::keep_from(keys, times, values, marks, h.used, t);
     Outcome {
         head: MapHead {
             low: t,

@@ -11,7 +11,7 @@ use Rattle.map_store.specs.Meaning.{checkpointRefusal}
 use Rattle.map_store.specs.Shape.{meaning}
 use Rattle.map_store.specs.ShapeLaws.{lent}
 use Rattle.map_store.specs.Tests.{say, time-old, time-future, checkpoint-held, checkpoint-done}
-use Rattle.map_checkpoint.specs.Checkpoint.{checkpoint-bad-shape, checkpoint-turned-down, checkpoint-carried-out}
+use Rattle.map_checkpoint.specs.CheckpointLaws.{checkpoint-bad-shape, checkpoint-turned-down, checkpoint-carried-out}
 use Rattle.map_checkpoint.proofs.checkpoint.Statement.{statement}
 use Rattle.map_checkpoint.proofs.checkpoint.Tie as tie
 

@@ -1,4 +1,4 @@
--- `newest::checkpoint::move_up` meets its contract. The loop's invariant: the picked versions of the first i rows stand in the first rows,
+-- `map_checkpoint::keep::move_up` meets its contract. The loop's invariant: the picked versions of the first i rows stand in the first rows,
 -- and the rows behind them are as they were. The measure is how many rows are left.
 use mathlib.Core.Path.{_≡_, refl, ap, sym, _∙_}
 use mathlib.Core.Bool.{Bool, true, false}
@@ -14,9 +14,9 @@ use Rattle.versions.specs.declared.Version.{Version}
 use Rattle.versions.specs.Versions.{Columns, columns, versionAt, versionsOf}
 use Rattle.versions.specs.Columns.{Spans, Long, each, picked, over, Moved}
 use Rattle.versions.specs.Laws.{length-versions, columns-same, long-self, lent-fewer}
-use Rattle.newest.proofs.Cells.{long-set, over-behind, over-more}
-use Rattle.newest.proofs.checkpoint.move_up.Statement.{statement}
-use Rattle.newest.proofs.checkpoint.move_up.Tie as tie
+use Rattle.map_checkpoint.proofs.Cells.{long-set, over-behind, over-more}
+use Rattle.map_checkpoint.proofs.keep.move_up.Statement.{statement}
+use Rattle.map_checkpoint.proofs.keep.move_up.Tie as tie
 
 -- a version's field is written behind the versions that moved up before it
 write : (field : Version → ℕ) (rows : List Version) (cells : List ℕ) (m i : ℕ) (v : Version) → m ≡ length rows → m ≤ i → i < length cells

@@ -1,4 +1,4 @@
--- `newest::checkpoint::pick_zero` meets its contract: the row that the search finds is picked, or there is none.
+-- `map_checkpoint::keep::pick_zero` meets its contract: the row that the search finds is picked, or there is none.
 use mathlib.Core.Path.{_≡_, sym, _∙_}
 use mathlib.Core.Bool.{Bool, true, false, _||_}
 use mathlib.Core.List.{List}
@@ -15,8 +15,8 @@ use Rattle.column.specs.declared.Found.{Found}
 use Rattle.column.specs.declared.Found.the-variants.{At, Nothing}
 use Rattle.versions.specs.Versions.{Columns, noColumns, keyed, versionsOf, newest, rowOf, isRow}
 use Rattle.versions.specs.Laws.{found-version, found-newest, none-found}
-use Rattle.newest.proofs.checkpoint.pick_zero.Statement.{statement}
-use Rattle.newest.proofs.checkpoint.pick_zero.Tie as tie
+use Rattle.map_checkpoint.proofs.keep.pick_zero.Statement.{statement}
+use Rattle.map_checkpoint.proofs.keep.pick_zero.Tie as tie
 
 module _ (ks ts : List ℕ) (n t : ℕ) (picks : List Bool) (f : Found)
     (h : (others : Columns) → f ≡ rowOf (newest 0 t (versionsOf n (keyed ks ts others)))) where

@@ -1,4 +1,4 @@
--- `newest::checkpoint::clear` meets its contract. The loop's invariant: the rows from `from` up to i are zero. The measure is how many rows are left.
+-- `map_checkpoint::keep::clear` meets its contract. The loop's invariant: the rows from `from` up to i are zero. The measure is how many rows are left.
 use mathlib.Core.Path.{_≡_}
 use mathlib.Core.List.{List}
 use Prim.Native.Nat.{ℕ, _+_, _-_, _≤_}
@@ -10,9 +10,9 @@ use native.Mathlib.Nat.{sub-self}
 use Rattle.versions.specs.Versions.{Columns, columns}
 use Rattle.versions.specs.Columns.{Spans, Long, each, zeroed, cleared}
 use Rattle.versions.specs.Laws.{long-self, lent-fewer, each-same}
-use Rattle.newest.proofs.Cells.{long-set, clear-more}
-use Rattle.newest.proofs.checkpoint.clear.Statement.{statement}
-use Rattle.newest.proofs.checkpoint.clear.Tie as tie
+use Rattle.map_checkpoint.proofs.Cells.{long-set, clear-more}
+use Rattle.map_checkpoint.proofs.keep.clear.Statement.{statement}
+use Rattle.map_checkpoint.proofs.keep.clear.Tie as tie
 
 -- no row is zero yet
 none : (m : ℕ) (cells : List ℕ) → cells ≡ zeroed m m cells

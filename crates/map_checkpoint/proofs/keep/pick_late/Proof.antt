@@ -1,4 +1,4 @@
--- `newest::checkpoint::pick_late` meets its contract. The loop's invariant: the first i picks say which rows are late.
+-- `map_checkpoint::keep::pick_late` meets its contract. The loop's invariant: the first i picks say which rows are late.
 -- The measure is how many rows are left.
 use mathlib.Core.Path.{_≡_, refl, _∙_}
 use mathlib.Core.Bool.{Bool, false}
@@ -11,8 +11,8 @@ use denote.Ref.{now}
 use lib.Dec.{ltb}
 use lib.ListN.{length, getD, set, length-set}
 use lib.Seq.{getD-set-same, getD-set-other}
-use Rattle.newest.proofs.checkpoint.pick_late.Statement.{statement}
-use Rattle.newest.proofs.checkpoint.pick_late.Tie as tie
+use Rattle.map_checkpoint.proofs.keep.pick_late.Statement.{statement}
+use Rattle.map_checkpoint.proofs.keep.pick_late.Tie as tie
 
 -- row j's pick says whether the row is late
 abbrev Picked : List Bool → List ℕ → ℕ → ℕ → Type 0

@@ -1,4 +1,4 @@
--- `newest::checkpoint::pick_kept` meets its contract: a row is picked as late, as named by the table, or as the newest of key 0, which is all that stays.
+-- `map_checkpoint::keep::pick_kept` meets its contract: a row is picked as late, as named by the table, or as the newest of key 0, which is all that stays.
 use mathlib.Core.Path.{_≡_, refl, _∙_}
 use mathlib.Core.Bool.{Bool, true, false, _||_}
 use mathlib.Core.List.{List}
@@ -12,10 +12,10 @@ use Rattle.rules.specs.Lists.{among}
 use Rattle.versions.specs.Versions.{Columns, keyed, versionAt, versionsOf, newest, isRow, isKept}
 use Rattle.table.specs.Table.{Next}
 use Rattle.table.specs.Laws.{next-within}
 use Rattle.newest.specs.Newest.{newestRows}
 use Rattle.newest.specs.Laws.{named, kept-row}
-use Rattle.newest.proofs.checkpoint.pick_kept.Statement.{statement}
-use Rattle.newest.proofs.checkpoint.pick_kept.Tie as tie
+use Rattle.map_checkpoint.proofs.keep.pick_kept.Statement.{statement}
+use Rattle.map_checkpoint.proofs.keep.pick_kept.Tie as tie
 
 last-first : (a b c : Bool) → (a || (b || c)) ≡ (c || (a || b))
 last-first true b true = refl

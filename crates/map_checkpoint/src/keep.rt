@@ -62,7 +62,7 @@ fn pick_kept(
     requires { do ⌜ (used ≤ (← ⟦Version::ROWS⟧)) × (used ≤ length (now keys)) × (used ≤ length (now times)) × Spare (now listed) (now places) used × (used ≤ length (now picks)) ⌝ }
     ensures { λ _. ⌜ ((others : Columns) (i : ℕ) → i < used → getD (now (picks .exit)) i false ≡ isKept t (versionsOf used (keyed (now (keys .entry)) (now (times .entry)) others)) i (versionAt i (keyed (now (keys .entry)) (now (times .entry)) others))) ⌝ }
 {
-    let n = crate::newest_rows(keys, times, used, t, listed, places);
+    let n = newest::newest_rows(keys, times, used, t, listed, places);
     pick_late(times, used, t, picks);
     pick_named(places, n, picks);
     pick_zero(keys, times, used, t, picks);

@@ -1,4 +1,4 @@
--- `newest::checkpoint::keep` meets its contract: the rows that are picked are those that stay, they have moved up, and the rest is zero.
+-- `map_checkpoint::keep::keep` meets its contract: the rows that are picked are those that stay, they have moved up, and the rest is zero.
 use mathlib.Core.Path.{_≡_, refl}
 use mathlib.Core.Bool.{Bool, false}
 use mathlib.Core.List.{List}
@@ -11,9 +11,9 @@ use Rattle.versions.specs.declared.Version.{Version}
 use Rattle.versions.specs.Versions.{Columns, columns, versionAt, versionsOf, isKept, thin, keptFrom}
 use Rattle.versions.specs.Columns.{Spans, picked, over, Moved, zeroed, cleared, thinnedColumn, Kept}
 use Rattle.versions.specs.Laws.{length-versions, lent-long, each-same, length-kept}
-use Rattle.newest.proofs.Cells.{over-cleared}
-use Rattle.newest.proofs.checkpoint.keep.Statement.{statement}
-use Rattle.newest.proofs.checkpoint.keep.Tie as tie
+use Rattle.map_checkpoint.proofs.Cells.{over-cleared}
+use Rattle.map_checkpoint.proofs.keep.keep.Statement.{statement}
+use Rattle.map_checkpoint.proofs.keep.keep.Tie as tie
 
 -- where each pick says whether its row stays, the picked versions are those that are kept
 picked-thin : (picks : List Bool) (cs : Columns) (T : ℕ) (whole : List Version) (n : ℕ)

@@ -1,4 +1,4 @@
--- `newest::checkpoint::pick_named` meets its contract. The loop's invariant: a row is picked, or named by a cell that is left, exactly if it is to be
+-- `map_checkpoint::keep::pick_named` meets its contract. The loop's invariant: a row is picked, or named by a cell that is left, exactly if it is to be
 -- picked at the end. The measure is how many cells are left.
 use mathlib.Core.Path.{_≡_, refl, sym, _∙_}
 use mathlib.Core.Bool.{Bool, true, false, _||_}
@@ -14,8 +14,8 @@ use lib.ListN.{length, take, drop, getD, set, length-set}
 use lib.Seq.{drop-cons, drop-length, getD-take, getD-set-same, getD-set-other, length-take-le}
 use Rattle.rules.specs.Bools.{split, or-left, or-right}
 use Rattle.rules.specs.Lists.{among}
-use Rattle.newest.proofs.checkpoint.pick_named.Statement.{statement}
-use Rattle.newest.proofs.checkpoint.pick_named.Tie as tie
+use Rattle.map_checkpoint.proofs.keep.pick_named.Statement.{statement}
+use Rattle.map_checkpoint.proofs.keep.pick_named.Tie as tie
 
 -- the rows that are named from cell x on, and those that are picked
 abbrev Picked : List ℕ → ℕ → ℕ → List Bool → ℕ → Bool
