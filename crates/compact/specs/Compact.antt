@@ -9,7 +9,7 @@ use Rattle.rules.specs.declared.Record.{Record}
 use Rattle.rules.specs.Kinds.{recordBytes}
 use Rattle.rules.specs.Lists.{among}
 use Rattle.rules.specs.Checkpoints.{isKnown, raise}
-use Rattle.record.specs.Laid.{laid}
+use Rattle.record.specs.Bytes.{laid}
 
 -- a known kind, of a transaction that stands in one of two columns
 abbrev pub keptIn : List ℕ → List ℕ → Record → Bool

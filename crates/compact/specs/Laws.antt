@@ -16,13 +16,13 @@ use Rattle.rules.specs.Transactions.{any, of, running}
 use Rattle.rules.specs.Times.{last}
 use Rattle.rules.specs.Checkpoints.{late, stays, isKnown, known, raise, sift, kept}
 use Rattle.rules.specs.Recovery.{formed, judge, accepts, done, only, survivors}
-use Rattle.record.specs.Bytes.{recordsIn}
+use Rattle.record.specs.Bytes.{recordsIn, laid}
 use Rattle.record.specs.Laws.{Fit}
-use Rattle.record.specs.Laid.{laid, AllFit, none, more, length-laid, records-laid, drop-more}
+use Rattle.record.specs.Laid.{AllFit, none, more, length-laid, records-laid, drop-more}
 use Rattle.journal.specs.Gathered.{lates, Gathered}
 use Rattle.journal.specs.GatheredLaws.{running-held, late-held}
-use Rattle.journal.specs.Past.{low-last}
-use Rattle.compact.specs.Judged.{judged}
+use Rattle.journal.specs.PastLaws.{low-last}
+use Rattle.rules.specs.Judged.{judged}
 use Rattle.compact.specs.Compact.{keptIn, sifted, zeroed, compacted, Moved, Compacted}
 
 -- tests that agree on every record sift alike

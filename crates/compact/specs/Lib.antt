@@ -3,6 +3,5 @@ pub mod Marks
 pub mod Compact
 -- Laws of it, and that no second answer satisfies a contract.
 pub mod MarksLaws
-pub mod Judged
 pub mod Laws
 pub mod Unique

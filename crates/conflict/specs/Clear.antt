@@ -9,7 +9,8 @@ use Rattle.rules.specs.Bools.{split}
 use Rattle.rules.specs.Kinds.{isUpdate, isCommit}
 use Rattle.rules.specs.Transactions.{any, of}
 use Rattle.rules.specs.Conflicts.{metOn, touched, clashes, conflict}
-use Rattle.journal.specs.Past.{Past, none, more, later}
+use Rattle.journal.specs.Past.{Past, none, more}
+use Rattle.journal.specs.PastLaws.{later}
 
 module _ (whole : List Record) (s : ℕ) (test : List Record → Bool) where
   -- no commit is after s

@@ -10,14 +10,14 @@ use Rattle.history.specs.History.{Change, Commitment, History, changesOf
 use Rattle.history.specs.Refusals.{onlyAdds, meet}
 
 -- what a change adds
-abbrev pub amount : Effect → ℕ
-amount (Assign v) = 0
-amount (Add d) = d
+abbrev pub addedBy : Effect → ℕ
+addedBy (Assign v) = 0
+addedBy (Add d) = d
 
 -- what some changes add to k in all
 abbrev pub total : ℕ → List Change → ℕ
 total k [] = 0
-total k (c ∷ older) = cond (eqb (c .key) k) (total k older + amount (c .effect)) (total k older)
+total k (c ∷ older) = cond (eqb (c .key) k) (total k older + addedBy (c .effect)) (total k older)
 
 -- the only keys that two transactions share are keys to which both only add
 abbrev pub ShareCounters : List Change → List Change → Type 0

@@ -29,7 +29,7 @@ use Rattle.map_store.specs.declared.MapHead.{MapHead}
 use Rattle.map_store.specs.Contracts.{lookupReply, ListedAt}
 use Rattle.history.specs.History.{Change, Commitment, History, Deed, Did, Checkpointed, numbers, changesOf, snapshotOf, history, making, valueIn, latest, changes, writtenBy, listIn}
 use Rattle.history.specs.Refusals.{distinctKeys, increases, onlyAdds, meet, changedAfter, conflicts, conflictsWith, lastIn, refusalIn}
-use Rattle.history.specs.Adders.{amount, total, ShareCounters, Raises, raisedBy, writtenBetween, Cause}
+use Rattle.history.specs.Adders.{addedBy, total, ShareCounters, Raises, raisedBy, writtenBetween, Cause}
 use Rattle.history.specs.Lawful.{Lawful, start, went}
 use Rattle.history.specs.Listed.{history-lists}
 use Rattle.history.specs.Told.{ended-among, ended-changes, ended-snapshot}
@@ -234,13 +234,13 @@ module _ (k : ℕ) where
       let more : increases (c .effect) ≡ true = rw e at (and-left (cond (eqb (c .key) k) (increases (c .effect)) true) (onlyAdds k cs) o) in
       rw (e, added (c .effect) more (making k cs v))
       (split (changes k cs)
-      (λ x. rw (adds-up cs v x rest) (ap Present (sum (orZero v) (total k cs) (amount (c .effect)))))
+      (λ x. rw (adds-up cs v x rest) (ap Present (sum (orZero v) (total k cs) (addedBy (c .effect)))))
       (λ x.
       let u = unchanged cs v x in
-      rw (u .0, u .1) (ap (λ (n : ℕ). Present (raisedBy (orZero v) n)) (sym (zero-add (amount (c .effect))))))))
+      rw (u .0, u .1) (ap (λ (n : ℕ). Present (raisedBy (orZero v) n)) (sym (zero-add (addedBy (c .effect))))))))
       (λ e. rw e (adds-up cs v (rw e at h) rest))
     where
-      added : (e : Effect) → increases e ≡ true → (w : Value) → applied e w ≡ Present (raisedBy (orZero w) (amount e))
+      added : (e : Effect) → increases e ≡ true → (w : Value) → applied e w ≡ Present (raisedBy (orZero w) (addedBy e))
       added (Assign x) h w = not-both false h refl
       added (Add x) h w = refl
 

@@ -162,3 +162,9 @@ writtenBy (c ∷ older) t k = (leb (c .time) t && changes k (c .changes)) || wri
 abbrev pub isPresent : Value → Bool
 isPresent Absent = false
 isPresent (Present v) = true
+
+-- the deeds without the checkpoints
+abbrev pub withoutCheckpoints : List Deed → List Deed
+withoutCheckpoints [] = []
+withoutCheckpoints (Did c ∷ ds) = Did c ∷ withoutCheckpoints ds
+withoutCheckpoints (Checkpointed t ∷ ds) = withoutCheckpoints ds

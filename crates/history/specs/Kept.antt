@@ -16,7 +16,7 @@ use Rattle.rules.specs.Meeting.{ReadsUpdates, met-reads, touched-same}
 use Rattle.rules.specs.Checkpoints.{raise, sift}
 use Rattle.rules.specs.Bools.{split, and-left, and-right, and-both, or-left, or-right, implies-false, and-false}
 use Rattle.rules.specs.KeptLaws.{raised, of-kept, above-sift, kept-fewer, running-sift, raised-begin, raised-end, raised-updates, met-raised, raised-wrote, raised-keys, raised-snapshot}
-use Rattle.journal.specs.Past.{low-last}
+use Rattle.journal.specs.PastLaws.{low-last}
 use Rattle.history.specs.Good.{Step, Good, none, more}
 use Rattle.history.specs.GoodLaws.{commit-begins, begun-of}
 

@@ -14,7 +14,7 @@ use Rattle.rules.specs.Times.{above}
 use Rattle.rules.specs.Checkpoints.{heldBy, held, late, stays, sift, kept}
 use Rattle.rules.specs.Recovery.{done}
 use Rattle.rules.specs.Bools.{split, or-left, or-none-left, or-none-right, not-both, and-false, or-false}
-use Rattle.journal.specs.Past.{low-last}
+use Rattle.journal.specs.PastLaws.{low-last}
 use Rattle.history.specs.Good.{Good, none, more}
 use Rattle.history.specs.GoodLaws.{good-known, fresh, unended, begun-of}
 use Rattle.history.specs.Alike.{Alike}

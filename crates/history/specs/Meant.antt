@@ -17,9 +17,8 @@ use Rattle.rules.specs.Kinds.{recordBytes}
 use Rattle.rules.specs.Times.{next}
 use Rattle.rules.specs.Lists.{rowKeys}
 use Rattle.rules.specs.Columns.{rowValues}
-use Rattle.rules.specs.Checkpoints.{kept}
 use Rattle.rules.specs.Recovery.{survivors}
-use Rattle.rules.specs.Calls.{Store, nextOf, listOf, Call, recordOf, refusal, checkpointRefusal, need, answer, checkpointAnswer}
+use Rattle.rules.specs.Calls.{Store, nextOf, listOf, Call, recordOf, refusal, checkpointRefusal, need, answer, checkpointAnswer, keptOf}
 use Rattle.rules.specs.Passed.{fitting}
 use Rattle.rules.specs.RoomLaws.{Roomy, room-for-each}
 use Rattle.record.specs.Bytes.{Bytes, recordsIn, appended}
@@ -156,7 +155,7 @@ module _ {room : ℕ → Type 0} {ds : List Deed} {since : ℕ} {x : Cells} (m :
           head = checkpointHead T before;
           keys = rowKeys (listOf T before) ++ drop (length (listOf T before)) keys;
           values = rowValues (listOf T before) ++ drop (length (listOf T before)) values;
-          journal = compacted (kept T (before .records)) (end x) journal;
+          journal = compacted (keptOf T before) (end x) journal;
         }
 
     checkpoint-accepted : checkpointNumber T (x .head) keys values journal ≡ 0 → Meant room (Checkpointed T ∷ ds) 0 shorter

@@ -22,8 +22,8 @@ use Rattle.rules.specs.Lists.{rising}
 use Rattle.rules.specs.Columns.{rowsOf}
 use Rattle.rules.specs.Recovery.{walk, survivors}
 use Rattle.rules.specs.Calls.{Store, withRoom}
-use Rattle.record.specs.Bytes.{Bytes, recordsIn}
-use Rattle.record.specs.Laid.{laid, length-laid}
+use Rattle.record.specs.Bytes.{Bytes, recordsIn, laid}
+use Rattle.record.specs.Laid.{length-laid}
 use Rattle.answer.specs.Reply.{Reply, accepted, told, after}
 use Rattle.compact.specs.Compact.{compacted}
 use Rattle.walk.specs.Judged.{whole-walk}

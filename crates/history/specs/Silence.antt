@@ -12,7 +12,7 @@ use Rattle.rules.specs.Calls.{Call, Begin, Update, Abort, Commit, withRoom}
 use Rattle.answer.specs.Reply.{Reply}
 use Rattle.journal_store.specs.Contracts.{ListedBy}
 use Rattle.versions.specs.Versions.{Columns}
-use Rattle.history.specs.History.{Commitment, History, Deed, Did, Checkpointed, recalled, history, latest, listIn}
+use Rattle.history.specs.History.{Commitment, History, Deed, Did, Checkpointed, recalled, history, latest, listIn, withoutCheckpoints}
 use Rattle.history.specs.Refusals.{lastIn, timeRefused, refusalIn}
 use Rattle.history.specs.Replayed.{whole}
 use Rattle.history.specs.Lawful.{Lawful, start, went}
@@ -24,12 +24,6 @@ use Rattle.history.specs.Demands.{accepted-is-lawful, list-answers}
 use Rattle.map_store.specs.Contracts.{ListedAt}
 use Rattle.history.specs.MapCells.{MapCells, MapLent, MapReached}
 use Rattle.history.specs.MapDemands.{map-accepted-is-lawful, map-list-answers}
-
--- the deeds without the checkpoints
-abbrev pub withoutCheckpoints : List Deed → List Deed
-withoutCheckpoints [] = []
-withoutCheckpoints (Did c ∷ ds) = Did c ∷ withoutCheckpoints ds
-withoutCheckpoints (Checkpointed t ∷ ds) = withoutCheckpoints ds
 
 -- a history with another low
 abbrev with-low : ℕ → History → History

@@ -22,13 +22,12 @@ use Rattle.journal_store.specs.Contracts.{Wrote, readDecided, lookupDecided, sh
 use Rattle.versions.specs.Versions.{Columns}
 use Rattle.map_store.specs.declared.MapHead.{MapHead}
 use Rattle.map_store.specs.Contracts.{readReply, lookupReply, ListedAt}
-use Rattle.history.specs.History.{Commitment, Deed, Did, Checkpointed, numbers, changesOf, snapshotOf, history, restarted, valueIn, reads, listIn, changes}
+use Rattle.history.specs.History.{Commitment, Deed, Did, Checkpointed, numbers, changesOf, snapshotOf, history, restarted, valueIn, reads, listIn, changes, withoutCheckpoints}
 use Rattle.history.specs.Refusals.{onlyAdds, conflictsWith, lastIn, givesIn, deedGives, numberIn, mapNumberIn, lookupNumber, readNumber, timeRefused, refusalIn}
 use Rattle.history.specs.Adders.{total, ShareCounters, Raises, raisedBy, writtenBetween, Cause}
 use Rattle.history.specs.Lawful.{Lawful}
 use Rattle.history.specs.Cells.{Cells, end, Lent, Shows, Registers, Cut, lost, counting, Reached}
 use Rattle.history.specs.MapCells.{MapCells, MapLent, Does, MapReached, Given}
-use Rattle.history.specs.Silence.{withoutCheckpoints}
 use Rattle.history.specs.Demands as demands
 use Rattle.history.specs.MapDemands as map
 use Rattle.history.specs.Restarts as restarts

@@ -14,14 +14,13 @@ use Rattle.rules.specs.Kinds.{isBegin, isEnd}
 use Rattle.rules.specs.Transactions.{any, of, runs}
 use Rattle.rules.specs.Times.{last, above, next}
 use Rattle.rules.specs.Values.{rowValue, value}
-use Rattle.rules.specs.Lists.{among, rising, listAt}
-use Rattle.rules.specs.Checkpoints.{kept}
+use Rattle.rules.specs.Lists.{among, rising}
 use Rattle.rules.specs.Recovery.{done, only}
-use Rattle.rules.specs.Calls.{Store, empty, lastOf, nextOf, runsIn, snapshotIn, valueOf, Call, Begin, Update, Abort, Commit, recordOf, refusal, checkpointRefusal, push, checkpointed}
+use Rattle.rules.specs.Calls.{Store, empty, lastOf, nextOf, runsIn, snapshotIn, valueOf, Call, Begin, Update, Abort, Commit, recordOf, refusal, checkpointRefusal, push, checkpointed, keptOf, listOf}
 use Rattle.rules.specs.Bools.{split, implies-false}
 use Rattle.rules.specs.Running.{not-ended}
 use Rattle.rules.specs.Listing.{list-lists}
-use Rattle.journal.specs.Past.{low-last}
+use Rattle.journal.specs.PastLaws.{low-last}
 use Rattle.history.specs.History.{Deed, Did, Checkpointed, numbers, history, restartedBy, restarted}
 use Rattle.history.specs.Course.{Course, lose, recoveredBy, recovered, walkLow}
 use Rattle.history.specs.Good.{Step, Good, none, more}
@@ -241,11 +240,11 @@ module _ (y : Course) (h : Tied y) where
 
   -- a checkpoint's store answers as the whole journal
   pub alike-checkpointed : {T : ℕ} → Allowed (y .store) (Checkpointed T)
-      → Alike T (nextOf (y .store)) 1 (rowValue (checkpointed T (y .store) .base)) (λ k. Absent) (kept T (y .store .records)) (whole (y .deeds) .records)
+      → Alike T (nextOf (y .store)) 1 (rowValue (checkpointed T (y .store) .base)) (λ k. Absent) (keptOf T (y .store)) (whole (y .deeds) .records)
   alike-checkpointed (may-checkpoint T l m n) =
       rw next-above
       (alike-checkpoint (y .store .low) (y .store .floor) 1 (rowValue (y .store .base)) (λ k. Absent) (y .store .records) (whole (y .deeds) .records) now
-      good-now T (rowValue (listAt (y .store .base) (y .store .records) T)) l n
+      good-now T (rowValue (listOf T (y .store))) l n
       (λ k i.
       list-lists (y .store .base) (y .store .records) T .values k i ∙ sym (since-all k T (y .store .low) (rowValue (y .store .base) k) good-now)))
 
@@ -254,13 +253,13 @@ module _ (y : Course) (h : Tied y) where
       → Tied (record { store = checkpointed T (y .store); deeds = Checkpointed T ∷ y .deeds; since = 0 })
   checkpoint-tied (may-checkpoint T l m n) ok =
       record {
-        mark = kept T (y .store .records);
+        mark = keptOf T (y .store);
         past = Checkpointed T ∷ y .deeds;
         alike = alike-checkpointed (may-checkpoint T l m n);
         good = good-checkpoint good-now T l;
         since = marked;
         behind = omega arith;
-        within = low-last T (kept T (y .store .records));
+        within = low-last T (keptOf T (y .store));
         lows = refl;
         floored = rw next-above (omega (arith, h .floored, above-least (y .store .floor) (y .store .records)));
         capped = omega arith;

@@ -12,13 +12,13 @@ use Rattle.rules.specs.declared.Value.{Value}
 use Rattle.rules.specs.declared.Value.the-variants.{Absent}
 use Rattle.rules.specs.Kinds.{isBegin, isUpdate, isCommit, isEnd, begun, committed, aborted}
 use Rattle.rules.specs.Effects.{effectOf, effects}
-use Rattle.rules.specs.Transactions.{of, runs, snapshot, running}
+use Rattle.rules.specs.Transactions.{of, runs, snapshot, running, without}
 use Rattle.rules.specs.Times.{last, above}
 use Rattle.rules.specs.Values.{value}
 use Rattle.rules.specs.Lists.{among}
 use Rattle.rules.specs.Calls.{Store, runningOf, runsIn, snapshotIn, updated, Begin, push}
 use Rattle.rules.specs.Bools.{split, not-both, and-false}
-use Rattle.rules.specs.Running.{without, running-skip, running-end, runs-skip, running-runs}
+use Rattle.rules.specs.Running.{running-skip, running-end, runs-skip, running-runs}
 use Rattle.history.specs.History.{Change, Commitment, Runner, History, Deed, Did, numbers, changesOf, snapshotOf, changed, ended, recalled, withDeed, making, valueIn, latest}
 use Rattle.history.specs.GoodLaws.{fresh}
 use Rattle.history.specs.Replayed.{replayed}

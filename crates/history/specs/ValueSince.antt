@@ -16,7 +16,7 @@ use Rattle.rules.specs.Values.{settle, value}
 use Rattle.rules.specs.Checkpoints.{late, sift}
 use Rattle.rules.specs.Bools.{split}
 use Rattle.rules.specs.KeptLaws.{of-kept, raised-effects}
-use Rattle.journal.specs.Past.{low-last}
+use Rattle.journal.specs.PastLaws.{low-last}
 use Rattle.history.specs.Good.{Good, none, more}
 use Rattle.history.specs.GoodLaws.{commit-begins, last-more}
 use Rattle.history.specs.Kept.{Fitting, fit-none, fit-more}

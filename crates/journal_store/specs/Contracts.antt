@@ -7,18 +7,18 @@ use lib.Dec.{eqb, ltb, leb}
 use lib.ListN.{length, drop, take}
 use Rattle.rules.specs.declared.Record.{Record}
 use Rattle.rules.specs.Kinds.{recordBytes}
-use Rattle.rules.specs.Calls.{Store, Call, answer, recordOf, gives, valueOf, readOf, readRefusal, lookupRefusal, listOf, listAnswer, checkpointAnswer}
+use Rattle.rules.specs.Calls.{Store, Call, answer, recordOf, gives, valueOf, readOf, readRefusal, lookupRefusal, listOf, listAnswer, checkpointAnswer, keptOf}
 use Rattle.rules.specs.declared.Value.the-variants.{Absent, Present}
 use Rattle.rules.specs.Lists.{rowKeys}
 use Rattle.rules.specs.Columns.{rowValues, Filled}
-use Rattle.rules.specs.Checkpoints.{kept}
 use Rattle.rules.specs.Values.{Row}
 use Rattle.rules.specs.Limits.{mostRecords, mostRows}
 use Rattle.rules.specs.declared.Walked.{Walked}
 use Rattle.rules.specs.declared.Walked.the-variants.{Whole, BadAt}
 use Rattle.rules.specs.Recovery.{walk, survivors}
 use Rattle.record.specs.Bytes.{appended, recordsIn}
-use Rattle.answer.specs.Reply.{Reply, told, after, accepted}
+use Rattle.answer.specs.declared.Refusal.the-variants.{BadShape}
+use Rattle.answer.specs.Reply.{Reply, refused, told, after, accepted}
 use Rattle.compact.specs.Compact.{compacted}
 use Rattle.journal_store.specs.declared.Head.{Head}
 use Rattle.journal_store.specs.Shape.{isShaped, roomOf, meaning, rowRoom}
@@ -55,7 +55,7 @@ lookupDecided k t s = told (lookupRefusal k t s) (valueOf k t s)
 -- what any store answers: 1 where its shape is bad
 abbrev pub shapedReply : Head → List ℕ → List ℕ → List ℕ → (Store → Reply) → Reply
 shapedReply h keys values j decided =
-    cond (isShaped h (length keys) (length values) (length j)) (decided (meaning h keys values j)) (record { number = 1; value = Absent })
+    cond (isShaped h (length keys) (length values) (length j)) (decided (meaning h keys values j)) (refused BadShape)
 
 -- what a store of good shape answers where so many rows are lent
 abbrev pub listDecided : ℕ → ℕ → Store → Reply
@@ -101,7 +101,7 @@ pub record Checkpointed (t : ℕ) (h : Head) (keys values j : List ℕ) (a : Rep
       ≡ after (checkpointNumber t h keys values j)
       (rowValues (listOf t (meaning h keys values j)) ++ drop (length (listOf t (meaning h keys values j))) values) values
   pub cells :
-      exit ≡ after (checkpointNumber t h keys values j) (compacted (kept t (meaning h keys values j .records)) (h .journal .used * recordBytes) j) j
+      exit ≡ after (checkpointNumber t h keys values j) (compacted (keptOf t (meaning h keys values j)) (h .journal .used * recordBytes) j) j
 
 -- how many rows a list has; the columns with them at their front where they fit, else as they were
 pub record Settled (room : ℕ) (rows : List Row) (keys values : List ℕ) (n : ℕ) (keys' values' : List ℕ) : Type 0 where
@@ -139,7 +139,7 @@ walkedReply (BadAt i) = record { number = 13; value = Present i }
 -- what recover answers
 abbrev pub recoverReply : Head → List ℕ → List ℕ → List ℕ → ℕ → Reply
 recoverReply h keys values j survived =
-    cond (isRecoverable h keys (length values) (length j) survived) (walkedReply (walk (h .low) (surviving survived j))) (record { number = 1; value = Absent })
+    cond (isRecoverable h keys (length values) (length j) survived) (walkedReply (walk (h .low) (surviving survived j))) (refused BadShape)
 
 -- where the call is accepted: the head, and the records of transactions with a commit at the front of the journal, zeros to the end of what
 -- survived; where it is refused: all as it was

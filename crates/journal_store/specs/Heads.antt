@@ -4,9 +4,8 @@ use Prim.Native.Nat.{ℕ, _+_}
 use lib.ListN.{length}
 use Rattle.rules.specs.declared.Record.{Record}
 use Rattle.rules.specs.Times.{next}
-use Rattle.rules.specs.Checkpoints.{kept}
 use Rattle.rules.specs.Recovery.{survivors}
-use Rattle.rules.specs.Calls.{Store, nextOf, listOf}
+use Rattle.rules.specs.Calls.{Store, nextOf, listOf, keptOf}
 use Rattle.journal_store.specs.declared.Head.{Head}
 
 -- begin, update, abort and commit: one record more
@@ -20,7 +19,7 @@ checkpointHead t s =
       low = t;
       floor = nextOf s;
       base = record { rows = length (listOf t s) };
-      journal = record { used = length (kept t (s .records)) };
+      journal = record { used = length (keptOf t s) };
     }
 
 -- recover: floor is the next number before dropping, used the count of the records that are left

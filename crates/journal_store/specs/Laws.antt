@@ -11,11 +11,10 @@ use Rattle.rules.specs.declared.Record.{Record}
 use Rattle.rules.specs.Bools.{split}
 use Rattle.rules.specs.Kinds.{recordBytes}
 use Rattle.rules.specs.Passed.{fitting}
-use Rattle.rules.specs.Calls.{Store, Call, Begin, Update, Abort, Commit, refusal, need, answer, recordOf, gives, listOf, listAnswer, withRoom, checkpointRefusal, checkpointAnswer}
+use Rattle.rules.specs.Calls.{Store, Call, Begin, Update, Abort, Commit, refusal, need, answer, recordOf, gives, listOf, listAnswer, withRoom, checkpointRefusal, checkpointAnswer, keptOf}
 use Rattle.rules.specs.declared.Value.the-variants.{Absent, Present}
 use Rattle.rules.specs.Lists.{rowKeys}
 use Rattle.rules.specs.Columns.{rowValues, Filled}
-use Rattle.rules.specs.Checkpoints.{kept}
 use Rattle.rules.specs.declared.Walked.{Walked}
 use Rattle.rules.specs.declared.Walked.the-variants.{Whole, BadAt}
 use Rattle.rules.specs.Recovery.{walk, survivors}
@@ -132,7 +131,7 @@ module _ (t : ℕ) (h : Head) (keys values j : List ℕ) where
         headed = after-refused x n (checkpointHead t s) h q;
         keys-column = after-refused x n (rowKeys (listOf t s) ++ drop (length (listOf t s)) keys) keys q;
         values-column = after-refused x n (rowValues (listOf t s) ++ drop (length (listOf t s)) values) values q;
-        cells = after-refused x n (compacted (kept t (s .records)) (h .journal .used * recordBytes) j) j q;
+        cells = after-refused x n (compacted (keptOf t s) (h .journal .used * recordBytes) j) j q;
       }
 
   -- a store of bad shape
@@ -171,7 +170,7 @@ module _ (t : ℕ) (h : Head) (keys values j : List ℕ) where
 
       pub checkpoint-written : (head : Head) (keys' values' exit : List ℕ) → n ≤ rowRoom (length keys)
           → head ≡ checkpointHead t (meaning h keys values j) → Filled (listOf t (meaning h keys values j)) keys values keys' values'
-          → exit ≡ compacted (kept t (meaning h keys values j .records)) (h .journal .used * recordBytes) j
+          → exit ≡ compacted (keptOf t (meaning h keys values j)) (h .journal .used * recordBytes) j
           → Checkpointed t h keys values j (accepted Absent) head keys' values' exit
       checkpoint-written head keys' values' exit l f g i =
           let z : checkpointNumber t h keys values j ≡ 0 = answered ∙ rw (e, ← q, le-leb n (rowRoom (length keys)) l) in
@@ -184,8 +183,8 @@ module _ (h : Head) (keys values j : List ℕ) (survived : ℕ) where
       let z : eqb (recoverReply h keys values j survived .number) 0 ≡ false = ap (λ (r : Reply). eqb (r .number) 0) e ∙ f in
       record { reply = sym e; headed = rw z; cells = rw z }
 
-  pub recover-bad : isRecoverable h keys (length values) (length j) survived ≡ false → Recovered h keys values j survived (record { number = 1; value = Absent }) h j
-  recover-bad e = left (record { number = 1; value = Absent }) (rw e) refl
+  pub recover-bad : isRecoverable h keys (length values) (length j) survived ≡ false → Recovered h keys values j survived (refused BadShape) h j
+  recover-bad e = left (refused BadShape) (rw e) refl
 
   module _ (e : isRecoverable h keys (length values) (length j) survived ≡ true) (w : Walked) (d : w ≡ walk (h .low) (surviving survived j)) where
     pub recover-refused : (i : ℕ) → w ≡ BadAt i → Recovered h keys values j survived (record { number = 13; value = Present i }) h j

@@ -18,7 +18,7 @@ use Rattle.rules.specs.Columns.{rowValues}
 use Rattle.rules.specs.ColumnLaws.{front-rows, length-keys, length-values}
 use Rattle.rules.specs.Checkpoints.{kept}
 use Rattle.rules.specs.Recovery.{done, survivors}
-use Rattle.rules.specs.Calls.{Store, Call, Begin, Update, Abort, Commit, nextOf, listOf, recordOf, answer, checkpointRefusal, checkpointAnswer, push, checkpointed}
+use Rattle.rules.specs.Calls.{Store, Call, Begin, Update, Abort, Commit, nextOf, listOf, recordOf, answer, checkpointRefusal, checkpointAnswer, push, checkpointed, keptOf}
 use Rattle.record.specs.Bytes.{Bytes, appended}
 use Rattle.record.specs.Laid.{fit-records}
 use Rattle.record.specs.Laws.{Fit, records-appended, length-records, length-appended}
@@ -60,14 +60,14 @@ pub checkpoint-meaning : (t : ℕ) (h : Head) (keys values j : List ℕ) → t <
     → meaning (checkpointHead t (meaning h keys values j))
     (rowKeys (listOf t (meaning h keys values j)) ++ drop (length (listOf t (meaning h keys values j))) keys)
     (rowValues (listOf t (meaning h keys values j)) ++ drop (length (listOf t (meaning h keys values j))) values)
-    (compacted (kept t (meaning h keys values j .records)) (h .journal .used * recordBytes) j)
+    (compacted (keptOf t (meaning h keys values j)) (h .journal .used * recordBytes) j)
     ≡ checkpointed t (meaning h keys values j)
 checkpoint-meaning t h keys values j small bytes =
     let s = meaning h keys values j in
     let rows = listOf t s in
     rw (
       front-rows rows (drop (length rows) keys) (drop (length rows) values),
-      records-compacted (kept t (s .records)) (h .journal .used * recordBytes) j
+      records-compacted (keptOf t s) (h .journal .used * recordBytes) j
           (fit-kept t (s .records) (s .records) small (fit-records (h .journal .used) j bytes)),
     )
 
@@ -115,7 +115,7 @@ module _ (h : Head) (keys values j : List ℕ) (w : Shaped h (length keys) (leng
         → Shaped (checkpointHead t (meaning h keys values j))
         (length (rowKeys rows ++ drop (length rows) keys))
         (length (rowValues rows ++ drop (length rows) values))
-        (length (compacted (kept t (meaning h keys values j .records)) (h .journal .used * recordBytes) j))
+        (length (compacted (keptOf t (meaning h keys values j)) (h .journal .used * recordBytes) j))
     checkpoint-shaped some =
         let rs = meaning h keys values j .records in
         let n = length-records (h .journal .used) j in

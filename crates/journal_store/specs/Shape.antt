@@ -4,10 +4,9 @@ use mathlib.Core.Bool.{Bool, not, _&&_}
 use mathlib.Core.List.{List}
 use Prim.Native.Nat.{ℕ, _*_, _/_, _^_, _<_, _≤_, min}
 use lib.Dec.{eqb, leb}
-use Rattle.rules.specs.declared.Effect.{Effect}
-use Rattle.rules.specs.declared.Effect.the-variants.{Assign, Add}
 use Rattle.rules.specs.Limits.{mostRecords, mostRows}
 use Rattle.rules.specs.Kinds.{recordBytes}
+use Rattle.rules.specs.Effects.{amountOf}
 use Rattle.rules.specs.Columns.{firstRows}
 use Rattle.rules.specs.Calls.{Store, Call, Begin, Update, Abort, Commit}
 use Rattle.record.specs.Bytes.{recordsIn}
@@ -51,11 +50,6 @@ pub record Shaped (h : Head) (keys values bytes : ℕ) : Type 0 where
   pub used : h .journal .used * recordBytes ≤ bytes
   pub floored : h .floor ≡ 0 → ⊥
 
--- the number of an effect
-abbrev pub amount : Effect → ℕ
-amount (Assign v) = v
-amount (Add d) = d
-
 -- what a call is given fits the numbers of section 2
 pub record Sized (n k v t : ℕ) : Type 0 where
   pub transaction : n < 2 ^ 32
@@ -65,6 +59,6 @@ pub record Sized (n k v t : ℕ) : Type 0 where
 
 abbrev pub SizedCall : Call → Type 0
 SizedCall (Begin t) = Sized 0 0 0 t
-SizedCall (Update n k e) = Sized n k (amount e) 0
+SizedCall (Update n k e) = Sized n k (amountOf e) 0
 SizedCall (Abort n) = Sized n 0 0 0
 SizedCall (Commit n t) = Sized n 0 0 t

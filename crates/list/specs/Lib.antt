@@ -1,4 +1,5 @@
--- What a reader must believe, with its laws.
+-- What a reader must believe.
 pub mod Ending
--- That no second answer satisfies a contract.
+-- Laws of it, and that no second answer satisfies a contract.
+pub mod EndingLaws
 pub mod Unique

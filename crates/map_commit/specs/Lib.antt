@@ -1,4 +1,5 @@
--- What the steps of the call make of the cells, and the laws that lead from there to its contract, which is in `map_store`.
+-- What a reader must believe: the parts of the call; its contract is in `map_store`.
 pub mod Commit
--- Laws of a slot's rows.
+-- Laws of it, which lead to the contract.
+pub mod CommitLaws
 pub mod RowLaws

@@ -1,2 +1,4 @@
--- What the steps of the call make of the cells, and the laws that lead from there to its contract, which is in `map_store`.
+-- What a reader must believe: the parts of the call; its contract is in `map_store`.
 pub mod List
+-- Laws of it, which lead to the contract.
+pub mod ListLaws

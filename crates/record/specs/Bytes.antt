@@ -67,3 +67,8 @@ written b at width v = take at b ++ (leBytes width v ++ drop (at + width) b)
 -- the journal's bytes with a record behind the first n
 abbrev pub appended : List ℕ → ℕ → Record → List ℕ
 appended b n r = take (n * recordBytes) b ++ (bytesOf r ++ drop (n * recordBytes + recordBytes) b)
+
+-- the bytes of records, the newest first, in the order of the journal
+abbrev pub laid : List Record → List ℕ
+laid [] = []
+laid (r ∷ older) = laid older ++ bytesOf r

@@ -8,13 +8,8 @@ use lib.ListN.{length, take, drop, length-append}
 use lib.Seq.{drop-drop, length-take-le, take-append-le, drop-append-add, take-all}
 use Rattle.rules.specs.declared.Record.{Record}
 use Rattle.rules.specs.Kinds.{recordBytes}
-use Rattle.record.specs.Bytes.{Bytes, le, fieldAt, recordAt, recordsIn, bytesOf, appended}
+use Rattle.record.specs.Bytes.{Bytes, le, fieldAt, recordAt, recordsIn, bytesOf, appended, laid}
 use Rattle.record.specs.Laws.{Fit, fit-read, record-back}
-
--- the bytes of records, the newest first, in the order of the journal
-abbrev pub laid : List Record → List ℕ
-laid [] = []
-laid (r ∷ older) = laid older ++ bytesOf r
 
 -- every record fits its bytes
 pub data AllFit : List Record → Type 0 where

@@ -32,7 +32,7 @@ use Rattle.answer.specs.declared.Listed.the-variants as listed-as
 use Rattle.answer.specs.Reply.{Reply, numberOf, placeNumber, refused, ofDone, ofListed, after}
 use Rattle.answer.specs.Laws.{refused-some}
 use Rattle.compact.specs.Compact.{compacted}
-use Rattle.journal.specs.Past.{low-last}
+use Rattle.journal.specs.PastLaws.{low-last}
 use Rattle.journal_store.specs.declared.Head.{Head}
 use Rattle.journal_store.specs.Shape.{meaning, Shaped}
 use Rattle.journal_store.specs.Heads.{recoveredHead}

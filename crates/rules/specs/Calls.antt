@@ -67,6 +67,10 @@ listOf t s = listAt (s .base) (s .records) t
 abbrev pub readOf : ℕ → ℕ → Store → Value
 readOf n k s = readIn (s .base) (s .records) n (snapshotIn n s) k
 
+-- the records that a checkpoint at t keeps
+abbrev pub keptOf : ℕ → Store → List Record
+keptOf t s = kept t (s .records)
+
 -- the record of an update
 abbrev pub updated : ℕ → ℕ → Effect → Record
 updated n k (Assign v) = assigned n k v
@@ -157,4 +161,4 @@ push r s = record { low = s .low; floor = s .floor; base = s .base; records = r 
 
 -- rule 3.9: base becomes the list at T, low T, floor the next number
 abbrev pub checkpointed : ℕ → Store → Store
-checkpointed T s = record { low = T; floor = nextOf s; base = listOf T s; records = kept T (s .records) }
+checkpointed T s = record { low = T; floor = nextOf s; base = listOf T s; records = keptOf T s }

@@ -11,6 +11,7 @@ pub mod Conflicts
 pub mod Checkpoints
 pub mod Recovery
 pub mod Calls
+pub mod Before
 -- Laws of it, and that no second answer satisfies a contract.
 pub mod ColumnLaws
 pub mod EffectLaws
@@ -21,7 +22,8 @@ pub mod Running
 pub mod Listing
 pub mod KeptLaws
 pub mod RoomLaws
-pub mod Before
+pub mod Judged
+pub mod BeforeLaws
 pub mod Unique
 -- Examples, computed.
 pub mod Examples

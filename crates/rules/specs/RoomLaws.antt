@@ -10,10 +10,10 @@ use borrow.Author.Tests.{eqb-true, eqb-false, eq-eqb, ne-eqb, not-true, not-fals
 use Rattle.rules.specs.declared.Record.{Record}
 use Rattle.rules.specs.declared.Effect.the-variants.{Assign, Add}
 use Rattle.rules.specs.Kinds.{isBegin, isEnd, begun, assigned, added, committed, aborted}
-use Rattle.rules.specs.Transactions.{any, of, runs, opens, runningIn, running}
+use Rattle.rules.specs.Transactions.{any, of, runs, opens, runningIn, running, without}
 use Rattle.rules.specs.Calls.{Store, nextOf, Call, Begin, Update, Abort, Commit, recordOf, refusal, need, answer, push, runningOf}
 use Rattle.rules.specs.Bools.{split, and-left, and-right, not-both, implies-false, or-false}
-use Rattle.rules.specs.Running.{without, not-ended, running-skip, running-end}
+use Rattle.rules.specs.Running.{not-ended, running-skip, running-end}
 use Rattle.rules.specs.Passed.{passed, fitting}
 use Rattle.rules.specs.KeptLaws.{any-more}
 

@@ -1,6 +1,6 @@
 -- What one record more changes in rule 3.2's readings of a journal: which transactions run, and what they wrote. Assumes nothing.
 use mathlib.Core.Path.{_≡_, refl, sym, _∙_}
-use mathlib.Core.Bool.{Bool, true, false, cond, not, _&&_, _||_}
+use mathlib.Core.Bool.{Bool, true, false, not, _&&_, _||_}
 use mathlib.Core.List.{List, [], _∷_}
 use Prim.Native.Nat.{ℕ, _<_, _≤_}
 use lib.Dec.{eqb, leb}
@@ -8,16 +8,11 @@ use borrow.Author.Tests.{eqb-true, eq-eqb, leb-true, leb-false, not-true}
 use Rattle.rules.specs.declared.Record.{Record}
 use Rattle.rules.specs.Bools.{split, and-right, and-false, or-none-left, or-none-right, not-both, iff}
 use Rattle.rules.specs.Kinds.{isBegin, isUpdate, isCommit, isEnd}
-use Rattle.rules.specs.Transactions.{any, of, stillOpen, wrote, keysWritten, runs, opens, runningIn, running}
+use Rattle.rules.specs.Transactions.{any, of, stillOpen, wrote, keysWritten, runs, opens, runningIn, running, without}
 use Rattle.rules.specs.Times.{above}
 use Rattle.rules.specs.Lists.{among}
 use Rattle.rules.specs.Conflicts.{touched}
 use Rattle.rules.specs.Meeting.{ReadsUpdates, test-skip}
-
--- the numbers but one
-abbrev pub without : ℕ → List ℕ → List ℕ
-without n [] = []
-without n (m ∷ ms) = cond (eqb n m) (without n ms) (m ∷ without n ms)
 
 eqb-sym : (a b : ℕ) → eqb a b ≡ eqb b a
 eqb-sym a b = iff (eqb a b) (eqb b a) (λ e. eq-eqb b a (sym (eqb-true a b e))) (λ e. eq-eqb a b (sym (eqb-true b a e)))

@@ -62,3 +62,8 @@ runningIn whole (r ∷ older) = cond (opens whole r older) (r .transaction ∷ r
 -- the running transactions, each number once, the latest begun first
 abbrev pub running : List Record → List ℕ
 running rs = runningIn rs rs
+
+-- the numbers but one
+abbrev pub without : ℕ → List ℕ → List ℕ
+without n [] = []
+without n (m ∷ ms) = cond (eqb n m) (without n ms) (m ∷ without n ms)

@@ -15,12 +15,13 @@ use Rattle.rules.specs.declared.Record.{Record}
 use Rattle.rules.specs.Bools.{split, and-left, and-false, or-left, or-right}
 use Rattle.rules.specs.Kinds.{isBegin, isCommit, isEnd}
 use Rattle.rules.specs.Lists.{among}
-use Rattle.rules.specs.Transactions.{any, of, runs, opens, snapshot, running}
+use Rattle.rules.specs.Transactions.{any, of, runs, opens, snapshot, running, without}
 use Rattle.rules.specs.Times.{last, above}
-use Rattle.rules.specs.Running.{without, running-skip, running-end, running-runs, below}
+use Rattle.rules.specs.Running.{running-skip, running-end, running-runs, below}
 use Rattle.rules.specs.Recovery.{numbered, timely, limited, judge}
-use Rattle.journal.specs.Past.{Past, past-last}
-use Rattle.compact.specs.Judged.{judged}
+use Rattle.journal.specs.Past.{Past}
+use Rattle.journal.specs.PastLaws.{past-last}
+use Rattle.rules.specs.Judged.{judged}
 use Rattle.column.specs.AmongLaws.{among-end}
 use Rattle.walk.specs.declared.State.{State}
 use Rattle.walk.specs.Walk.{started, pushed, latest, Held, Room, Without, Open, Tracks, numberedBy, timelyBy}

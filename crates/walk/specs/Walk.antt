@@ -9,10 +9,9 @@ use Rattle.rules.specs.Limits.{mostRunning, numbersEnd}
 use Rattle.rules.specs.declared.Record.{Record}
 use Rattle.rules.specs.Kinds.{isBegin, isCommit}
 use Rattle.rules.specs.Lists.{among}
-use Rattle.rules.specs.Transactions.{of, snapshot, running}
+use Rattle.rules.specs.Transactions.{of, snapshot, running, without}
 use Rattle.rules.specs.Times.{last as lastIn, above as aboveIn}
 use Rattle.rules.specs.Recovery.{judge}
-use Rattle.rules.specs.Running.{without}
 use Rattle.walk.specs.declared.State.{State}
 
 -- nothing is passed

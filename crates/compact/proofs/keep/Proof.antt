@@ -10,9 +10,9 @@ use lib.ListN.{length, take, drop}
 use Rattle.rules.specs.declared.Record.{Record}
 use Rattle.rules.specs.Kinds.{recordBytes}
 use Rattle.rules.specs.Checkpoints.{raise}
-use Rattle.record.specs.Bytes.{recordAt, recordsIn, bytesOf, appended}
+use Rattle.record.specs.Bytes.{recordAt, recordsIn, bytesOf, appended, laid}
 use Rattle.record.specs.Laws.{length-appended}
-use Rattle.record.specs.Laid.{laid, drop-more, record-drop, take-appended, drop-appended}
+use Rattle.record.specs.Laid.{drop-more, record-drop, take-appended, drop-appended}
 use Rattle.compact.specs.Compact.{keptIn, sifted, Moved}
 use borrow.Author.Needs.{needs}
 use native.Mathlib.Omega.{arith}

@@ -1,6 +1,6 @@
 -- `report_on` tells a refusal by the first byte of the text. Assumes nothing.
 use native.Mathlib.Omega.{arith}
-use Rattle.list.specs.Ending.{printed, told-refused, told-empty, told-listed}
+use Rattle.list.specs.EndingLaws.{printed, told-refused, told-empty, told-listed}
 use borrow.Author.Needs.{needs}
 use Rattle.list.proofs.report_on.Statement.{statement}
 use Rattle.list.proofs.report_on.Tie as tie

@@ -24,7 +24,8 @@ use Rattle.map_store.specs.Shape.{lengths, isShaped, Shaped}
 use Rattle.map_store.specs.ShapeLaws.{lent}
 use Rattle.map_store.specs.Laws.{place-none, place-found, rowed-found}
 use Rattle.map_store.specs.Tests.{commit-unknown, commit-later, commit-conflict, commit-room, commit-done}
-use Rattle.map_commit.specs.Commit.{newestIn, Stamped, Put, room-lent, commit-bad-shape, commit-turned-down, commit-carried-out}
+use Rattle.map_commit.specs.Commit.{newestIn, Stamped, Put}
+use Rattle.map_commit.specs.CommitLaws.{room-lent, commit-bad-shape, commit-turned-down, commit-carried-out}
 use Rattle.map_commit.specs.RowLaws.{length-firsts}
 use Rattle.map_commit.proofs.commit.Statement.{statement}
 use Rattle.map_commit.proofs.commit.Tie as tie

@@ -12,7 +12,7 @@ use Rattle.map_store.specs.Meaning.{listAnswer}
 use Rattle.map_store.specs.Shape.{meaning}
 use Rattle.map_store.specs.ShapeLaws.{lent}
 use Rattle.map_store.specs.Tests.{say, list-old, list-future}
-use Rattle.map_list.specs.List.{list-unpaired, list-bad-shape, list-untimely, list-timed}
+use Rattle.map_list.specs.ListLaws.{list-unpaired, list-bad-shape, list-untimely, list-timed}
 use Rattle.map_list.proofs.list.Statement.{statement}
 use Rattle.map_list.proofs.list.Tie as tie
 

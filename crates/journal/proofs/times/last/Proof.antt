@@ -4,7 +4,7 @@ use native.Mathlib.Omega.{arith}
 use borrow.Author.Needs.{needs}
 use denote.Ref.{now}
 use Rattle.record.specs.Bytes.{recordsIn}
-use Rattle.journal.specs.Past.{last-past}
+use Rattle.journal.specs.PastLaws.{last-past}
 use Rattle.journal.proofs.times.last.Statement.{statement}
 use Rattle.journal.proofs.times.last.Tie as tie
 

@@ -12,7 +12,7 @@ use Rattle.rules.specs.declared.Record.{Record}
 use Rattle.rules.specs.Kinds.{recordBytes, isCommit}
 use Rattle.rules.specs.Times.{last, lastStep}
 use Rattle.record.specs.Bytes.{recordAt, recordsIn}
-use Rattle.journal.specs.Past.{past-last, past-at, low-last}
+use Rattle.journal.specs.PastLaws.{past-last, past-at, low-last}
 use Rattle.journal.proofs.times.newest_time.Statement.{statement}
 use Rattle.journal.proofs.times.newest_time.Tie as tie
 

@@ -13,7 +13,7 @@ use Rattle.rules.specs.Checkpoints.{heldBy}
 use Rattle.record.specs.Bytes.{recordsIn}
 use Rattle.journal.specs.declared.transactions.Trace.{Trace}
 use Rattle.journal.specs.Walks.{traceOf}
-use Rattle.journal.specs.Ends.{ended-behind}
+use Rattle.journal.specs.EndsLaws.{ended-behind}
 use borrow.Author.Needs.{needs}
 use denote.Ref.{now}
 use Rattle.journal.proofs.transactions.is_held.Statement.{statement}

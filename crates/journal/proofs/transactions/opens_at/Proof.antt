@@ -12,7 +12,7 @@ use Rattle.rules.specs.Transactions.{any, of, opens}
 use Rattle.record.specs.Bytes.{recordsIn}
 use Rattle.journal.specs.declared.transactions.Trace.{Trace}
 use Rattle.journal.specs.Walks.{traceOf}
-use Rattle.journal.specs.Ends.{none-of, ended-behind, ended-before}
+use Rattle.journal.specs.EndsLaws.{none-of, ended-behind, ended-before}
 use Rattle.journal.proofs.transactions.opens_at.Statement.{statement}
 use Rattle.journal.proofs.transactions.opens_at.Tie as tie
 

@@ -5,7 +5,7 @@ use denote.Ref.{now}
 use Rattle.rules.specs.Bools.{failed, stood}
 use Rattle.record.specs.Bytes.{recordsIn}
 use Rattle.record.specs.Laws.{length-records}
-use Rattle.journal.specs.Past.{past-last}
+use Rattle.journal.specs.PastLaws.{past-last}
 use Rattle.journal_store.specs.Tests.{commit-unknown, commit-later, commit-conflict, commit-room}
 use Rattle.journal_store.proofs.commit.decide.Statement.{statement}
 use Rattle.journal_store.proofs.commit.decide.Tie as tie

@@ -7,7 +7,7 @@ use Prim.Native.Nat.{ℕ, _+_, _-_, _≤_, _<_}
 use native.Mathlib.Numerals.{add-one}
 use lib.ListN.{getD}
 use borrow.Author.Tests.{eq-eqb, ne-eqb}
-use Rattle.rules.specs.Running.{without}
+use Rattle.rules.specs.Transactions.{without}
 use Rattle.walk.specs.declared.State.{State}
 use Rattle.walk.specs.Walk.{started, pushed, latest, Without}
 use Rattle.walk.specs.Laws.{push-room, push-rows, push-held}
