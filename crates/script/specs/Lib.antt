@@ -4,7 +4,6 @@ pub mod Play
 pub mod Tally
 pub mod Run
 pub mod Rows
-pub mod Sums
 -- A law of it, and that no second answer satisfies a contract.
 pub mod RunLaws
 pub mod Unique

@@ -7,7 +7,6 @@ use Rattle.answer.specs.declared.shown.Answer.{Answer}
 use Rattle.script.specs.declared.run.Run.{Run}
 use Rattle.script.specs.Run.{fresh, goes, read, judgedBy}
 use Rattle.script.specs.Rows.{mostLent, told}
-use Rattle.script.specs.Sums.{three, total, filled}
 
 -- a run at first, whether a line is left, and after a line and its answer
 pub run-unique : (store : ℕ) {r r' : Run} → r ≡ fresh store → r' ≡ fresh store → r ≡ r'
@@ -29,13 +28,3 @@ lent-unique count p q = p ∙ sym q
 pub told-unique : (answer : Answer) (keys values : List ℕ) (row : ℕ) {r r' : Answer} → r ≡ told answer keys values row
     → r' ≡ told answer keys values row → r ≡ r'
 told-unique answer keys values row p q = p ∙ sym q
-
--- sums, of three numbers and of a column of any width, and bytes that are filled
-pub three-unique : (sum x y z : ℕ) {r r' : ℕ} → r ≡ three sum x y z → r' ≡ three sum x y z → r ≡ r'
-three-unique sum x y z p q = p ∙ sym q
-
-pub total-unique : (sum : ℕ) (column : List ℕ) {r r' : ℕ} → r ≡ total sum column → r' ≡ total sum column → r ≡ r'
-total-unique sum column p q = p ∙ sym q
-
-pub fill-unique : (bytes : List ℕ) (start stop value : ℕ) {r r' : List ℕ} → r ≡ filled bytes start stop value → r' ≡ filled bytes start stop value → r ≡ r'
-fill-unique bytes start stop value p q = p ∙ sym q

@@ -5,5 +5,4 @@ pub mod play;
 pub mod rows;
 pub mod run;
 mod say;
-pub mod sums;
 pub mod tally;

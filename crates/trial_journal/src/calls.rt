@@ -16,7 +16,6 @@ use registers::journal_calls::registers_journal_read;
 use registers::journal_calls::registers_journal_recover;
 use script::line::Call;
 use script::rows;
-use script::sums;
 
 // The head as it was.
 fn unchanged(head: Head, answer: Answer) -> JournalResult {

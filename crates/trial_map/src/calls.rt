@@ -13,7 +13,6 @@ use registers::map_calls::registers_map_lookup;
 use registers::map_calls::registers_map_read;
 use script::line::Call;
 use script::rows;
-use script::sums;
 use slot::Slot;
 use slot::Slots;
 

@@ -1,4 +1,4 @@
--- `script::sums::fill` meets its contract: what is left to fill completes to the answer, and each turn leaves one byte less. Assumes nothing.
+-- `sums::fill` meets its contract: what is left to fill completes to the answer, and each turn leaves one byte less. Assumes nothing.
 use mathlib.Core.Path.{_≡_}
 use Prim.Native.Nat.{_-_}
 use native.Mathlib.Nat.{min-le-right}
@@ -6,10 +6,10 @@ use native.Mathlib.Omega.{arith}
 use borrow.Author.Needs.{needs}
 use denote.Ref.{now}
 use lib.ListN.{length, length-set}
-use Rattle.script.proofs.Turns.{byte-filled}
-use Rattle.script.specs.Sums.{fillOn, filled}
-use Rattle.script.proofs.sums.fill.Statement.{statement}
-use Rattle.script.proofs.sums.fill.Tie as tie
+use Rattle.sums.proofs.Turns.{byte-filled}
+use Rattle.sums.specs.Sums.{fillOn, filled}
+use Rattle.sums.proofs.fill.Statement.{statement}
+use Rattle.sums.proofs.fill.Tie as tie
 
 abbrev Inv-loop : tie.InvT-loop
 Inv-loop bytes₀ from to value end i₀ bytes i = (length bytes ≡ length bytes₀) × (fillOn value bytes i (end - i) ≡ filled bytes₀ from to value)

@@ -1,7 +1,7 @@
 // A sum of cells, by which a change is seen.
 ghost use mathlib.Core.Path.{_≡_};
 ghost use Prim.Native.Nat.{min};
-ghost use Rattle.script.specs.Sums.{more, three as threeMore, total, filled};
+ghost use Rattle.sums.specs.Sums.{more, three as threeMore, total, filled};
 use std::num::wrapping_add_u64;
 
 // A sum with one number more. Its bits turn round and none is lost, so that sums which differ in one number differ.

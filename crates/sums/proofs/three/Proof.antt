@@ -1,7 +1,7 @@
--- `script::sums::three` meets its contract. Assumes nothing.
+-- `sums::three` meets its contract. Assumes nothing.
 use borrow.Author.Needs.{needs}
-use Rattle.script.proofs.sums.three.Statement.{statement}
-use Rattle.script.proofs.sums.three.Tie as tie
+use Rattle.sums.proofs.three.Statement.{statement}
+use Rattle.sums.proofs.three.Tie as tie
 
 returns : tie.Need-returns
 returns c = rw (c .more3 .ensures, c .before .more2 .ensures, c .before .before .more .ensures)

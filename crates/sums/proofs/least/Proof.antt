@@ -1,9 +1,9 @@
--- `script::sums::least` meets its contract. Assumes nothing.
+-- `sums::least` meets its contract. Assumes nothing.
 use mathlib.Core.Path.{sym}
 use native.Mathlib.Nat.{min-eq-left, min-eq-right}
 use native.Mathlib.Omega.{arith}
-use Rattle.script.proofs.sums.least.Statement.{statement}
-use Rattle.script.proofs.sums.least.Tie as tie
+use Rattle.sums.proofs.least.Statement.{statement}
+use Rattle.sums.proofs.least.Tie as tie
 
 returns : tie.Need-returns
 returns c = sym (min-eq-left (omega arith))

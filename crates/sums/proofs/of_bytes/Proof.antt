@@ -1,12 +1,12 @@
--- `script::sums::of_bytes` meets its contract: what is left of the column completes to the sum, and each turn leaves one cell less. Assumes nothing.
+-- `sums::of_bytes` meets its contract: what is left of the column completes to the sum, and each turn leaves one cell less. Assumes nothing.
 use mathlib.Core.Path.{_∙_}
 use Prim.Native.Nat.{_-_}
 use native.Mathlib.Omega.{arith}
 use lib.ListN.{length}
 use borrow.Author.Needs.{needs}
-use Rattle.script.proofs.Turns.{Adding, starts, added, ends}
-use Rattle.script.proofs.sums.of_bytes.Statement.{statement}
-use Rattle.script.proofs.sums.of_bytes.Tie as tie
+use Rattle.sums.proofs.Turns.{Adding, starts, added, ends}
+use Rattle.sums.proofs.of_bytes.Statement.{statement}
+use Rattle.sums.proofs.of_bytes.Tie as tie
 
 abbrev Inv-loop : tie.InvT-loop
 Inv-loop sum column s₀ i₀ s i = Adding sum column s i
