@@ -21,7 +21,8 @@ use Rattle.registers.specs.declared.MapResult.{MapResult}
 use Rattle.registers.specs.declared.about.Limits.{Limits}
 use Rattle.registers.specs.declared.about.Numbers.{Numbers}
 use Rattle.registers.specs.Answer.{Answers, JournalReturns, MapReturns}
-use Rattle.registers.specs.About.{limits, numbers, journalSample, mapSample}
+use Rattle.sample.specs.Sample.{journalSample, mapSample}
+use Rattle.registers.specs.About.{limits, numbers}
 
 -- answers of one reply are one answer
 same : {P Q : Reply → Type 0} {a b : Answer} (p : Answers P a) (q : Answers Q b) → p .reply ≡ q .reply → a ≡ b

@@ -1,7 +1,7 @@
--- `registers::about::slot_from` meets its contract: three fields, then the three columns. Assumes nothing.
+-- `sample::slot_from` meets its contract: three fields, then the three columns. Assumes nothing.
 use borrow.Author.Needs.{needs}
-use Rattle.registers.proofs.about.slot_from.Statement.{statement}
-use Rattle.registers.proofs.about.slot_from.Tie as tie
+use Rattle.sample.proofs.slot_from.Statement.{statement}
+use Rattle.sample.proofs.slot_from.Tie as tie
 
 add-counted-from : tie.Need-add-counted-from
 add-counted-from c = search needs

@@ -1,4 +1,4 @@
--- `registers::about::slots_from` meets its contract. The loop's invariant: the slots that are filled and those that are left, counted from `at` on,
+-- `sample::slots_from` meets its contract. The loop's invariant: the slots that are filled and those that are left, counted from `at` on,
 -- are all eight. Assumes nothing.
 use mathlib.Core.Path.{_≡_, refl}
 use mathlib.Core.List.{List, _++_}
@@ -7,10 +7,10 @@ use native.Mathlib.Omega.{arith}
 use borrow.Author.Needs.{needs}
 use lib.ListN.{length, take, set, length-set}
 use Rattle.slot.specs.declared.Slot.{Slot}
-use Rattle.registers.specs.About.{slotFrom, slotsFrom}
-use Rattle.registers.proofs.Laid.{laid, all-laid}
-use Rattle.registers.proofs.about.slots_from.Statement.{statement}
-use Rattle.registers.proofs.about.slots_from.Tie as tie
+use Rattle.sample.specs.Sample.{slotFrom, slotsFrom}
+use Rattle.sample.proofs.Laid.{laid, all-laid}
+use Rattle.sample.proofs.slots_from.Statement.{statement}
+use Rattle.sample.proofs.slots_from.Tie as tie
 
 turn : (slots : List Slot) (s : Slot) (at i : ℕ) (whole : List Slot) → i < 8 → length slots ≡ 8 → s ≡ slotFrom at
     → take i slots ++ slotsFrom at (8 - i) ≡ whole → take (i + 1) (set slots i s) ++ slotsFrom (at + 99) (8 - (i + 1)) ≡ whole

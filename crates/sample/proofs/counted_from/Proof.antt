@@ -1,32 +1,32 @@
--- `registers::about::marked_from` meets its contract. The loop's invariant: the cells that are filled and those that are left, counted from `at` on
--- modulo 256, are the whole column. Assumes nothing.
+-- `sample::counted_from` meets its contract. The loop's invariant: the cells that are filled and those that are left, counted from `at` on,
+-- are the whole column. Assumes nothing.
 use mathlib.Core.Path.{_≡_, refl}
 use mathlib.Core.List.{List, _++_}
-use Prim.Native.Nat.{ℕ, suc, _+_, _-_, _%_, _≤_, _<_}
+use Prim.Native.Nat.{ℕ, suc, _+_, _-_, _≤_, _<_}
 use native.Mathlib.Omega.{arith}
 use borrow.Author.Needs.{needs}
 use lib.ListN.{length, take, set, length-set}
-use Rattle.registers.specs.About.{markedFrom}
-use Rattle.registers.proofs.Laid.{laid, all-laid}
-use Rattle.registers.proofs.about.marked_from.Statement.{statement}
-use Rattle.registers.proofs.about.marked_from.Tie as tie
+use Rattle.sample.specs.Sample.{countedFrom}
+use Rattle.sample.proofs.Laid.{laid, all-laid}
+use Rattle.sample.proofs.counted_from.Statement.{statement}
+use Rattle.sample.proofs.counted_from.Tie as tie
 
-turn : (cells : List ℕ) (at i : ℕ) (whole : List ℕ) → i < 32 → length cells ≡ 32 → take i cells ++ markedFrom at (32 - i) ≡ whole
-    → take (i + 1) (set cells i (at % 256)) ++ markedFrom (at + 1) (32 - (i + 1)) ≡ whole
-unfolding markedFrom
+turn : (cells : List ℕ) (at i : ℕ) (whole : List ℕ) → i < 32 → length cells ≡ 32 → take i cells ++ countedFrom at (32 - i) ≡ whole
+    → take (i + 1) (set cells i at) ++ countedFrom (at + 1) (32 - (i + 1)) ≡ whole
+unfolding countedFrom
 turn cells at i whole l n e =
     let w : 32 - i ≡ suc (32 - (i + 1)) = omega arith in
-    laid cells i (at % 256) (markedFrom (at + 1) (32 - (i + 1))) whole (omega arith) (rw w at e)
+    laid cells i at (countedFrom (at + 1) (32 - (i + 1))) whole (omega arith) (rw w at e)
 
-finish : (cells : List ℕ) (at i : ℕ) (whole : List ℕ) → 32 ≤ i → length cells ≡ 32 → take i cells ++ markedFrom at (32 - i) ≡ whole → cells ≡ whole
-unfolding markedFrom
+finish : (cells : List ℕ) (at i : ℕ) (whole : List ℕ) → 32 ≤ i → length cells ≡ 32 → take i cells ++ countedFrom at (32 - i) ≡ whole → cells ≡ whole
+unfolding countedFrom
 finish cells at i whole l n e =
     let w : 32 - i ≡ 0 = omega arith in
     all-laid cells i whole (omega arith) (rw w at e)
 
 abbrev Inv-loop : tie.InvT-loop
 Inv-loop place cells₀ at₀ i₀ cells at i =
-    (i ≤ 32) × (at ≡ place + i) × (length cells ≡ 32) × (take i cells ++ markedFrom at (32 - i) ≡ markedFrom place 32)
+    (i ≤ 32) × (at ≡ place + i) × (length cells ≡ 32) × (take i cells ++ countedFrom at (32 - i) ≡ countedFrom place 32)
 
 abbrev μ-loop : tie.MeasureT-loop
 μ-loop place cells₀ at₀ i₀ cells at i = 32 - i
@@ -34,8 +34,8 @@ abbrev μ-loop : tie.MeasureT-loop
 loop-holds : tie.Need-loop-holds Inv-loop μ-loop
 loop-holds c = (omega arith, omega arith, refl, refl)
 
-cast-cells : tie.Need-cast-cells Inv-loop μ-loop
-cast-cells c = search needs
+mul-cells : tie.Need-mul-cells Inv-loop μ-loop
+mul-cells c = search needs
 
 array-write-cells : tie.Need-array-write-cells Inv-loop μ-loop
 array-write-cells c = search needs
@@ -63,14 +63,14 @@ returns c =
     let l = c .before .loop in
     finish (l .cells) (l .at) (l .i) _ (omega arith) (l .inv .2) (l .inv .3)
 
-pub marked-from-spec : {M : Type 1} → statement M
-marked-from-spec =
+pub counted-from-spec : {M : Type 1} → statement M
+counted-from-spec =
     tie.close
     (tie.spec
     Inv-loop
     μ-loop
     loop-holds
-    cast-cells
+    mul-cells
     array-write-cells
     add-at
     add-i
