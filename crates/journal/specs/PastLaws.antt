@@ -16,7 +16,7 @@ use Rattle.rules.specs.Checkpoints.{late}
 use Rattle.record.specs.Bytes.{recordAt, recordsIn}
 use Rattle.journal.specs.Past.{Past, more, none}
 
--- and so it is before any later time
+-- what lies at or before a time lies at or before any later one
 pub later : {l m : ℕ} {rs : List Record} → l ≤ m → Past l rs → Past m rs
 later h none = none
 later h (more r rs c p) = more r rs (λ e. let k = c e in omega arith) (later h p)

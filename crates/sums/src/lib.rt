@@ -18,6 +18,7 @@ pub fn three(sum: u64, x: u64, y: u64, z: u64) -> u64
     more(more(more(sum, x), y), z)
 }
 
+// The lesser of two.
 fn least(a: usize, b: usize) -> usize
     ensures { λ r. ⌜ r ≡ min a b ⌝ }
 {
@@ -39,6 +40,7 @@ pub fn fill(bytes: &mut [u8], from: usize, to: usize, value: u8)
     }
 }
 
+// A sum with every byte of a column more; the others likewise with wider cells.
 pub fn of_bytes(sum: u64, column: &[u8]) -> u64
     ensures { λ r. ⌜ r ≡ total sum (now (column .entry)) ⌝ }
 {
