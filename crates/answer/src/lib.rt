@@ -1,5 +1,7 @@
 // Section 6: what the calls of both stores answer. A refused call answers its number alone, 13 also its place; what an accepted one answers
 // is its own enum's.
+#![tactic(auto)]
+
 ghost use Rattle.std.specs.Prelude.{◌≡◌, eqb};
 ghost use Rattle.answer.specs.Reply.{number_of, place_number, begun_number, of_begun, of_done, of_listed};
 
@@ -8,7 +10,7 @@ use rules::Value;
 pub mod shown;
 
 // Why a call was refused, in the order of the numbers.
-#[derive(Drop)]
+#[derive(Clone, Copy)]
 pub enum Refusal {
     BadShape,
     UnknownTransaction,
@@ -70,7 +72,7 @@ impl Refusal {
 }
 
 // What begin answers.
-#[derive(Drop)]
+#[derive(Clone, Copy)]
 pub enum Begun {
     Number(u32),
     Refused(Refusal),
@@ -99,14 +101,14 @@ impl Begun {
 }
 
 // What read and lookup answer.
-#[derive(Drop)]
+#[derive(Clone, Copy)]
 pub enum Got {
     Value(Value),
     Refused(Refusal),
 }
 
 // What update, abort, commit, checkpoint and recover answer.
-#[derive(Drop)]
+#[derive(Clone, Copy)]
 pub enum Done {
     Accepted,
     Refused(Refusal),
@@ -125,7 +127,7 @@ impl Done {
 }
 
 // What list answers: how many rows it filled.
-#[derive(Drop)]
+#[derive(Clone, Copy)]
 pub enum Listed {
     Rows(usize),
     Refused(Refusal),

@@ -9,7 +9,7 @@ use rules::Value;
 
 // The number of section 6, 0 where the call was accepted, and whether a value stands beside it: 1 and the value, or 0 and 0.
 #[repr(C)]
-#[derive(Drop)]
+#[derive(Clone, Copy)]
 pub struct Answer {
     pub number: u32,
     pub present: u32,

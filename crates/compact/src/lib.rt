@@ -1,5 +1,7 @@
 // Checkpoint and recovery in place: the records that stay move up to the front of the journal, and what they leave behind becomes zero.
 // Which ones stay is settled before the first byte moves.
+#![tactic(auto)]
+
 ghost use Rattle.std.specs.Prelude.{◌≡◌, true, ◌*◌, ◌%◌, ◌≤◌, length, take, replicate};
 ghost use Rattle.rules.specs.Limits.{most_records};
 ghost use Rattle.rules.specs.Kinds.{record_size};

@@ -1,4 +1,6 @@
 // Rule 3.6, whether a commit conflicts, and the limit of 32 keys written in one transaction. Both ask which keys a transaction wrote.
+#![tactic(auto)]
+
 ghost use Rattle.std.specs.Prelude.{◌≡◌, ◌*◌, ◌≤◌, length, take};
 ghost use Rattle.rules.specs.Limits.{most_records};
 ghost use Rattle.rules.specs.Kinds.{record_size};

@@ -1,4 +1,5 @@
 // Numbers as text: decimal, no leading zero, the most significant digit first.
+#![tactic(auto)]
 
 ghost use Rattle.std.specs.Prelude.{◌+◌, ◌≤◌, length};
 ghost use Rattle.decimal.specs.Digits.{digits};

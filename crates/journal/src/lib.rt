@@ -1,5 +1,7 @@
 // What the records of a journal say of transactions and times: rules 3.2 and 3.3, read only. Damaged records are records like any
 // other; unknown kinds are passed over. Every pass asks that the used records are there.
+#![tactic(auto)]
+
 ghost use Rattle.std.specs.Prelude.{◌≡◌};
 ghost use Rattle.journal.specs.Kinds.{empty_base, empty_journal};
 
@@ -8,7 +10,7 @@ pub mod transactions;
 
 // The base table below the journal: how many of its rows are used.
 #[repr(C)]
-#[derive(Drop)]
+#[derive(Clone, Copy)]
 pub struct Base {
     pub rows: usize,
 }
@@ -26,7 +28,7 @@ impl Base {
 
 // The journal: how many of its records are used.
 #[repr(C)]
-#[derive(Drop)]
+#[derive(Clone, Copy)]
 pub struct Journal {
     pub used: usize,
 }

@@ -13,7 +13,7 @@ use crate::{Journal, times};
 use rules::Record;
 
 // What the records say of one transaction.
-#[derive(Drop)]
+#[derive(Clone, Copy)]
 pub struct Trace {
     pub begun: bool,
     pub ended: bool,

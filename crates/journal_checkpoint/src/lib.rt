@@ -1,4 +1,6 @@
 // The journal store's checkpoint: the base becomes the list at a time, and the journal keeps what is still needed. Refusals 1, 4, 5, 9, 12.
+#![tactic(auto)]
+
 ghost use Rattle.std.specs.Prelude.{◌≡◌, ◌≤◌, length};
 ghost use Rattle.rules.specs.Limits.{most_rows};
 ghost use Rattle.rules.specs.declared.Value.TheVariants.{Absent};

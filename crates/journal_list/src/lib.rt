@@ -1,4 +1,6 @@
 // The journal store's list: every key from 1 up that is not absent at a time, once, rising, with its value. Refusals 1, 4, 5, 12.
+#![tactic(auto)]
+
 ghost use Rattle.std.specs.Prelude.{◌≡◌, true, false, ◌≤◌, ltb, length};
 ghost use Rattle.rules.specs.Calls.{last_of};
 ghost use Rattle.answer.specs.Reply.{of_listed};

@@ -1,4 +1,6 @@
 // The journal store's recovery: the store as its surviving bytes tell it, after a restart. Refusals 1, 13.
+#![tactic(auto)]
+
 ghost use Rattle.std.specs.Prelude.{◌≡◌, ◌≤◌, length, take};
 ghost use Rattle.answer.specs.Reply.{of_done};
 ghost use Rattle.journal_store.specs.CallContracts.{rising_keys, is_recoverable, Recovered};

@@ -1,5 +1,7 @@
 // The journal store: its head, and what all its calls share. Every call is lent the whole store, head, base columns and journal bytes, and makes
 // the same shape test; it answers for all inputs and asks nothing of its caller.
+#![tactic(auto)]
+
 ghost use Rattle.std.specs.Prelude.{◌≡◌, true, ◌+◌, ◌≤◌, length};
 ghost use Rattle.rules.specs.declared.Value.TheVariants.{Absent};
 ghost use Rattle.rules.specs.Limits.{most_records};
@@ -22,7 +24,7 @@ pub mod update;
 
 // The journal head: low, floor, how many base rows and how many journal records are used.
 #[repr(C)]
-#[derive(Drop)]
+#[derive(Clone, Copy)]
 pub struct Head {
     pub low: u64,
     pub floor: u32,
@@ -60,14 +62,14 @@ impl Head {
 }
 
 // What begin returns: the head and its answer.
-#[derive(Drop)]
+#[derive(Clone, Copy)]
 pub struct Started {
     pub head: Head,
     pub answer: Begun,
 }
 
 // What update, abort, commit, checkpoint and recover return: the head and the answer.
-#[derive(Drop)]
+#[derive(Clone, Copy)]
 pub struct Outcome {
     pub head: Head,
     pub answer: Done,

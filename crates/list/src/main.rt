@@ -1,5 +1,7 @@
 // The listing program of section 7: a journal from standard input, its listing to standard output. A Rattle program has no status of its own: one line
 // on standard error says how it ended, and `listing` takes its status from that. A run that says nothing has not come to its end.
+#![tactic(auto)]
+
 ghost use Rattle.std.specs.Prelude.{◌≡◌, ◌≤◌, length};
 ghost use Rattle.report.specs.Text.{text_bytes};
 ghost use Rattle.list.specs.Ending.{Output, ending_of};
@@ -12,7 +14,7 @@ use streams::input::Input;
 use streams::{input, output};
 
 // What the journal gave: a listing of its records, one of no record at all, or a refusal.
-#[derive(Drop)]
+#[derive(Clone, Copy)]
 enum Ending {
     Listed,
     Empty,
@@ -20,7 +22,7 @@ enum Ending {
 }
 
 // The length of the text, and what it is.
-#[derive(Drop)]
+#[derive(Clone, Copy)]
 struct Told {
     count: usize,
     ending: Ending,

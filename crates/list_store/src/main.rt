@@ -1,5 +1,7 @@
 // The listing program for a whole store, docs/FILE.md: a file from standard input, its listing in section 7's form to standard output. It ends as
 // `list` does: one line on standard error says how.
+#![tactic(auto)]
+
 ghost use Rattle.std.specs.Prelude.{◌≡◌, ◌≤◌, length, take};
 ghost use Rattle.report.specs.Text.{text_bytes};
 ghost use Rattle.list_store.specs.Text.{ReportedFrom, Output, ending_of};
@@ -12,7 +14,7 @@ use streams::input::Input;
 use streams::{input, output};
 
 // What the file gave: a listing, a refusal by the store, or no whole store.
-#[derive(Drop)]
+#[derive(Clone, Copy)]
 enum Ending {
     Listed,
     Refused,
@@ -20,7 +22,7 @@ enum Ending {
 }
 
 // The length of the text, and what it is.
-#[derive(Drop)]
+#[derive(Clone, Copy)]
 struct Told {
     count: usize,
     ending: Ending,

@@ -56,7 +56,7 @@ fn pick_kept(
     places: &mut [u32],
     picks: &mut [bool],
 )
-    requires* { do ⌜ (used ≤ (← ⟦Version::ROWS⟧)) × (used ≤ length keys.now) × (used ≤ length times.now) × Spare listed.old places.old used × (used ≤ length picks.old) ⌝ }
+    requires { (used ≤ Version.ROWS) × (used ≤ length keys.now) × (used ≤ length times.now) × Spare listed.old places.old used × (used ≤ length picks.old) }
     ensures { (others : Columns) (i : ℕ) → i < used → get_or picks.new i false ≡ is_kept t (versions_of used (keyed keys.now times.now others)) i (version_at i (keyed keys.now times.now others)) }
 {
     let n = newest::newest_rows(keys, times, used, t, listed, places);
@@ -126,7 +126,7 @@ fn keep(
     places: &mut [u32],
     picks: &mut [bool],
 ) -> usize
-    requires* { do ⌜ Spans used (columns keys.old times.old values.old marks.old) × (used ≤ (← ⟦Version::ROWS⟧)) × Spare listed.old places.old used × (used ≤ length picks.old) ⌝ }
+    requires { Spans used (columns keys.old times.old values.old marks.old) × (used ≤ Version.ROWS) × Spare listed.old places.old used × (used ≤ length picks.old) }
     ensures { Kept t used (columns keys.old times.old values.old marks.old) (columns keys.new times.new values.new marks.new) result }
 {
     pick_kept(keys, times, used, t, listed, places, picks);
@@ -144,7 +144,7 @@ fn keep_few(
     used: usize,
     t: u64,
 ) -> usize
-    requires* { do ⌜ Spans used (columns keys.old times.old values.old marks.old) × (used < (← ⟦Version::FEW⟧)) ⌝ }
+    requires { Spans used (columns keys.old times.old values.old marks.old) × (used < Version.FEW) }
     ensures { Kept t used (columns keys.old times.old values.old marks.old) (columns keys.new times.new values.new marks.new) result }
 {
     let mut listed = [0u32; Version::FEW];
@@ -172,7 +172,7 @@ pub fn keep_from(
     used: usize,
     t: u64,
 ) -> usize
-    requires* { do ⌜ Spans used (columns keys.old times.old values.old marks.old) × (used ≤ (← ⟦Version::ROWS⟧)) ⌝ }
+    requires { Spans used (columns keys.old times.old values.old marks.old) × (used ≤ Version.ROWS) }
     ensures { Kept t used (columns keys.old times.old values.old marks.old) (columns keys.new times.new values.new marks.new) result }
 {
     if used < Version::FEW {

@@ -1,4 +1,6 @@
 // The map store's checkpoint: versions that no snapshot from a time on can see are dropped. Refusals 1, 4, 5, 9.
+#![tactic(auto)]
+
 mod keep;
 
 ghost use Rattle.answer.specs.Reply.{of_done};

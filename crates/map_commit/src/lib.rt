@@ -1,4 +1,6 @@
 // The map store's commit: what a transaction's updates come to becomes versions at a time later than last. Refusals 1, 2, 10, 11, 12.
+#![tactic(auto)]
+
 ghost use Rattle.std.specs.Prelude.{◌≡◌, List, ℕ, ◌+◌, ◌≤◌, ◌<◌, length};
 ghost use Rattle.answer.specs.Reply.{of_done};
 ghost use Rattle.slot.specs.Formed.{Rowed};
@@ -123,7 +125,7 @@ fn stamp(
     last: u64,
     t: u64,
 ) -> usize
-    requires* { do ⌜ Rowed s × (used ≤ (← ⟦Version::ROWS⟧)) × Spans (used + length (firsts (slot_rows s))) (columns keys.old times.old values.old marks.old) ⌝ }
+    requires { Rowed s × (used ≤ Version.ROWS) × Spans (used + length (firsts (slot_rows s))) (columns keys.old times.old values.old marks.old) }
     ensures { Stamped (newest_in last used (columns keys.old times.old values.old marks.old)) t used (firsts (slot_rows s)) (columns keys.old times.old values.old marks.old) (columns keys.new times.new values.new marks.new) result }
 {
     let rows = s.count;

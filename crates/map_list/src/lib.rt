@@ -1,4 +1,6 @@
 // The map store's list: every key that has a value at a time from low to last, rising, with its value. Refusals 1, 4, 5, 12.
+#![tactic(auto)]
+
 ghost use Rattle.std.specs.Prelude.{◌≡◌, List, ℕ, ◌≤◌, ◌<◌, length};
 ghost use Rattle.answer.specs.Reply.{of_listed};
 ghost use Rattle.versions.specs.Versions.{columns, versions_of, list_at};
@@ -22,7 +24,7 @@ fn write(
     out_keys: &mut [u32],
     out_values: &mut [u32],
 ) -> Listed
-    requires* { do ⌜ (used ≤ length keys.now) × (used ≤ length times.now) × (used ≤ length values.now) × (used ≤ (← ⟦Version::ROWS⟧)) × Spare listed.old contents.old used × (length out_keys.old ≡ length out_values.old) ⌝ }
+    requires { (used ≤ length keys.now) × (used ≤ length times.now) × (used ≤ length values.now) × (used ≤ Version.ROWS) × Spare listed.old contents.old used × (length out_keys.old ≡ length out_values.old) }
     ensures { (marks : List ℕ) → ListedIn (list_at (versions_of used (columns keys.now times.now values.now marks)) t) out_keys.old out_values.old (of_listed result) out_keys.new out_values.new }
 {
     let count = newest::listing(keys, times, values, used, t, listed, contents);
@@ -44,7 +46,7 @@ fn write_any(
     out_keys: &mut [u32],
     out_values: &mut [u32],
 ) -> Listed
-    requires* { do ⌜ (used ≤ length keys.now) × (used ≤ length times.now) × (used ≤ length values.now) × (used ≤ (← ⟦Version::ROWS⟧)) × (length out_keys.old ≡ length out_values.old) ⌝ }
+    requires { (used ≤ length keys.now) × (used ≤ length times.now) × (used ≤ length values.now) × (used ≤ Version.ROWS) × (length out_keys.old ≡ length out_values.old) }
     ensures { (marks : List ℕ) → ListedIn (list_at (versions_of used (columns keys.now times.now values.now marks)) t) out_keys.old out_values.old (of_listed result) out_keys.new out_values.new }
 {
     if used < Version::FEW {

@@ -1,5 +1,7 @@
 // The map store: its head, and what all its calls share. Every call is lent the whole store, head and version columns, and makes the same
 // shape test; it answers for all inputs and asks nothing of its caller.
+#![tactic(auto)]
+
 ghost use Rattle.std.specs.Prelude.{◌≡◌, true, List, ℕ, ◌≤◌, length};
 ghost use Rattle.slot.specs.Formed.{Rowed};
 ghost use Rattle.slot.specs.Places.{slot_rows};
@@ -22,7 +24,7 @@ pub mod update;
 
 // The map head: low, last, the next transaction number, how many versions are used, and the eight transaction slots.
 #[repr(C)]
-#[derive(Drop)]
+#[derive(Clone, Copy)]
 pub struct MapHead {
     pub low: u64,
     pub last: u64,
@@ -50,14 +52,14 @@ impl MapHead {
 }
 
 // What begin returns: the head and its answer.
-#[derive(Drop)]
+#[derive(Clone, Copy)]
 pub struct Started {
     pub head: MapHead,
     pub answer: Begun,
 }
 
 // What update, abort, commit and checkpoint return: the head and the answer.
-#[derive(Drop)]
+#[derive(Clone, Copy)]
 pub struct Outcome {
     pub head: MapHead,
     pub answer: Done,

@@ -28,7 +28,7 @@ pub fn listing(
     listed: &mut [u32],
     contents: &mut [u32],
 ) -> usize
-    requires* { do ⌜ (used ≤ (← ⟦Version::ROWS⟧)) × (used ≤ length keys.now) × (used ≤ length times.now) × (used ≤ length values.now) × Spare listed.old contents.old used ⌝ }
+    requires { (used ≤ Version.ROWS) × (used ≤ length keys.now) × (used ≤ length times.now) × (used ≤ length values.now) × Spare listed.old contents.old used }
     ensures { (marks : List ℕ) → Next (list_at (versions_of used (columns keys.now times.now values.now marks)) t) listed.old contents.old listed.new contents.new result }
 {
     let n = crate::newest_rows(keys, times, used, t, listed, contents);

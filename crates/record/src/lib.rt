@@ -1,4 +1,6 @@
 // The journal record of section 4: its 24 bytes read as numbers, and a new record written straight into the unused end of the journal.
+#![tactic(auto)]
+
 ghost use Rattle.std.specs.Prelude.{◌≡◌, ◌++◌, ◌+◌, ◌*◌, ◌≤◌, length, drop};
 ghost use Rattle.rules.specs.Kinds.{record_size};
 ghost use Rattle.record.specs.Bytes.{width_of, Field, record_at, bytes_of, written, appended};
@@ -6,7 +8,7 @@ ghost use Rattle.record.specs.Bytes.{width_of, Field, record_at, bytes_of, writt
 use rules::Record;
 
 // How wide a number of a record is.
-#[derive(Drop)]
+#[derive(Clone, Copy)]
 pub enum Width {
     Four,
     Eight,

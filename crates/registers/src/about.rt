@@ -13,7 +13,7 @@ use versions::Version;
 
 // The limits of section 2, how many refusals there are, and which layout the heads have.
 #[repr(C)]
-#[derive(Drop)]
+#[derive(Clone, Copy)]
 pub struct Limits {
     pub layout: u32,
     pub running: u32,
@@ -32,7 +32,7 @@ impl Limits {
 
 // The number of each refusal, under the name of what happened.
 #[repr(C)]
-#[derive(Drop)]
+#[derive(Clone, Copy)]
 pub struct Numbers {
     pub bad_shape: u32,
     pub unknown_transaction: u32,

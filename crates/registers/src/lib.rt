@@ -1,6 +1,8 @@
 // Every call of both stores under a fixed name, for a host in C, C++ or Rust: on plain slices, and on structs of C's layout by value. A call hands
 // its arguments to the store and gives the answer as three numbers; it decides nothing, and asks nothing of its caller.
 // `about` gives a host what it can hold its own figures to.
+#![tactic(auto)]
+
 use answer::shown::Answer;
 use journal_store::Head;
 use map_store::MapHead;
@@ -11,7 +13,7 @@ pub mod map_calls;
 
 // What a call that changes the journal store returns: the head to use from then on, and the answer.
 #[repr(C)]
-#[derive(Drop)]
+#[derive(Clone, Copy)]
 pub struct JournalResult {
     pub head: Head,
     pub answer: Answer,
@@ -19,7 +21,7 @@ pub struct JournalResult {
 
 // What a call that changes the map store returns: the head to use from then on, and the answer.
 #[repr(C)]
-#[derive(Drop)]
+#[derive(Clone, Copy)]
 pub struct MapResult {
     pub head: MapHead,
     pub answer: Answer,

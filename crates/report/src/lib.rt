@@ -1,5 +1,7 @@
 // Section 7: the text of the listing program, from a head, its base and the bytes of a journal; a journal alone has the head of an empty store. A text
 // is written into a lent buffer, piece by piece, each behind the one before.
+#![tactic(auto)]
+
 ghost use Rattle.std.specs.Prelude.{◌+◌, ◌*◌, ◌≤◌, length};
 ghost use Rattle.rules.specs.Columns.{first_rows};
 ghost use Rattle.answer.specs.Reply.{number_of, place_number};

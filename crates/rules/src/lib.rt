@@ -1,11 +1,13 @@
 // The kinds that everything speaks of: what a register holds, what an update does to it, and a record of the journal.
 // Section 3 of the rule book stands beside them in specs/, a file for each rule.
+#![tactic(auto)]
+
 ghost use Rattle.std.specs.Prelude.{◌≡◌, ◌&&◌, nat_le};
 ghost use Rattle.rules.specs.Kinds.{is_commit, is_update};
 ghost use Rattle.rules.specs.Effects.{or_zero, applied, joined, is_add, mark_of, amount_of, effect_by, effect_of};
 
 // What a register holds. 0 is an ordinary value and differs from absent.
-#[derive(Drop)]
+#[derive(Clone, Copy)]
 pub enum Value {
     Absent,
     Present(u32),
@@ -24,7 +26,7 @@ impl Value {
 }
 
 // What an update does to a register.
-#[derive(Drop)]
+#[derive(Clone, Copy)]
 pub enum Effect {
     Assign(u32),
     Add(u32),
@@ -96,7 +98,7 @@ pub fn join(older: Effect, newer: Effect) -> Effect
 }
 
 // A record of the journal: all its 24 bytes as numbers. `zeros` are the bytes 1 to 3, which an accepted call writes as 0.
-#[derive(Drop)]
+#[derive(Clone, Copy)]
 pub struct Record {
     pub kind: u8,
     pub zeros: u32,
@@ -152,7 +154,7 @@ impl Record {
 }
 
 // What recovery's walk over a journal finds: every record is one that an accepted call would write at its place, or the place of the first that is not.
-#[derive(Drop)]
+#[derive(Clone, Copy)]
 pub enum Walked {
     Whole,
     BadAt(usize),

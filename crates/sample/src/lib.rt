@@ -1,4 +1,6 @@
 // A head of each store whose fields hold their own places, so that a host reads order, width and offset of all fields off one struct.
+#![tactic(auto)]
+
 ghost use Rattle.std.specs.Prelude.{◌≡◌, ◌≤◌};
 ghost use Rattle.rules.specs.Limits.{most_running, most_keys};
 ghost use Rattle.sample.specs.Sample.{journal_sample, map_sample, counted_from, marked_from, slot_from, slots_from};

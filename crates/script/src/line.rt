@@ -5,7 +5,7 @@ ghost use Rattle.script.specs.Line.{blank, spelt, noted, counted, moved_to, clos
 use std::num::{wrapping_add_u64, wrapping_add_usize};
 
 // What a line asks of a store: a word, and up to three numbers, as times or counts and as numbers of transactions, keys and values.
-#[derive(Drop)]
+#[derive(Clone, Copy)]
 pub struct Call {
     pub word: u32,
     pub a: u64,
@@ -18,7 +18,7 @@ pub struct Call {
 
 // A line: what it asks, the answer that it wants (a number of section 6, and 1 where a value stands beside it), whether it has a name, and where in
 // the script it stands.
-#[derive(Drop)]
+#[derive(Clone, Copy)]
 pub struct Line {
     pub call: Call,
     pub number: u64,
@@ -30,7 +30,7 @@ pub struct Line {
 }
 
 // What is read of a line: its word and its numbers, the place of the next one, and whether it has begun.
-#[derive(Drop)]
+#[derive(Clone, Copy)]
 pub struct Reading {
     word: u32,
     numbers: [u64; Reading::NUMBERS],

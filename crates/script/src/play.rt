@@ -7,7 +7,7 @@ use std::num::{wrapping_add_u64, wrapping_add_usize};
 
 // The store's word and the next line; the block that is repeated, from its first line on, for each x up to the last; up to which x the lines behind
 // a `when` run, and whether they are passed over now; whether lines are for this store; whether the line before the next asks something of it.
-#[derive(Drop)]
+#[derive(Clone, Copy)]
 pub struct Play {
     pub store: u32,
     pub at: usize,

@@ -10,7 +10,7 @@ use answer::shown::Answer;
 use std::num::wrapping_add_u32;
 
 // Where it stands, the line that was read last, what came of the lines before it, and how many were read.
-#[derive(Drop)]
+#[derive(Clone, Copy)]
 pub struct Run {
     pub play: Play,
     pub line: Line,

@@ -9,7 +9,7 @@ use answer::shown::Answer;
 use std::num::wrapping_add_u64;
 
 // How many lines went as they must, and how many not; and the sum of the store's cells after the last.
-#[derive(Drop)]
+#[derive(Clone, Copy)]
 pub struct Tally {
     right: u64,
     wrong: u64,

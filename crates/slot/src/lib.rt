@@ -1,4 +1,6 @@
 // The transaction slots of the map store, rule 3.8: they pass by value, and each operation hands the changed one back.
+#![tactic(auto)]
+
 ghost use Rattle.std.specs.Prelude.{true, ◌≡◌, ℕ, ◌<◌};
 ghost use Rattle.std.specs.Int.Count.{ones};
 ghost use Rattle.rules.specs.Limits.{most_running, most_keys};
@@ -13,7 +15,7 @@ use rules::Effect;
 // A transaction's slot: its number and snapshot, and a row for each key that it wrote, with what its updates of it come to: the mark 0 assigns
 // the value, any other adds it. count rows are in use.
 #[repr(C)]
-#[derive(Drop)]
+#[derive(Clone, Copy)]
 pub struct Slot {
     pub number: u32,
     pub snapshot: u64,
@@ -110,7 +112,7 @@ impl Slot {
 
 // The eight slots, and the number whose one bits are the occupied ones.
 #[repr(C)]
-#[derive(Drop)]
+#[derive(Clone, Copy)]
 pub struct Slots {
     pub occupied: u8,
     pub slots: [Slot; 8],

@@ -1,5 +1,7 @@
 // A whole store in a file, layout 1 of docs/FILE.md: a signature, the head, the base rows, a check sum of all that, and the journal's bytes, as many
 // as were written. Reading tells a whole store from anything else, and takes nothing from a file that is none.
+#![tactic(auto)]
+
 ghost use Rattle.std.specs.Prelude.{◌≡◌, ◌+◌, ◌*◌, ◌%◌, ◌^◌, ◌≤◌, ◌++◌, length, drop};
 ghost use Rattle.rules.specs.Limits.{most_rows};
 ghost use Rattle.store_file.specs.Layout.{base_row_bytes, head_bytes, sum_factor, sum_of, is_whole, head_of, column_of};
@@ -12,7 +14,7 @@ use rules::Record;
 use std::num::wrapping_add_u64;
 
 // What a file is: a whole store with its head, whose journal starts at a byte, or no whole store.
-#[derive(Drop)]
+#[derive(Clone, Copy)]
 pub enum Opened {
     Whole(Head, usize),
     Broken,

@@ -5,7 +5,7 @@ ghost use Rattle.streams.specs.Moves.{Within, Fits};
 use crate::moves::{Moved, Step, moved_by, next_step};
 
 // What the input gave: so many bytes until it ended or the buffer was full, or a read that failed.
-#[derive(Drop)]
+#[derive(Clone, Copy)]
 pub enum Input {
     Ended(usize),
     Failed,

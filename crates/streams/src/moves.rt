@@ -6,7 +6,7 @@ use crate::input::Input;
 use libc::EINTR;
 
 // What one call of read or write did.
-#[derive(Drop)]
+#[derive(Clone, Copy)]
 pub enum Moved {
     Bytes(usize),
     Nothing,
@@ -21,7 +21,7 @@ impl Moved {
 }
 
 // What follows it: go on, with so many bytes done and so many interruptions left, or stop.
-#[derive(Drop)]
+#[derive(Clone, Copy)]
 pub enum Step {
     On(usize, usize),
     Stop(Input),

@@ -1,4 +1,6 @@
 // A sum of cells, by which a change is seen.
+#![tactic(auto)]
+
 ghost use Rattle.std.specs.Prelude.{◌≡◌, min};
 ghost use Rattle.sums.specs.Sums.{more, three as three_more, total, filled};
 

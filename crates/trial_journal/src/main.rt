@@ -1,5 +1,7 @@
 // Runs a script of calls on the journal store, and compares each answer with the one that the script gives. The script is the file `stdin` beside
 // this folder; at its top stands what its lines mean.
+#![tactic(auto)]
+
 ghost use Rattle.std.specs.Prelude.{◌≤◌};
 
 use journal::Journal;

@@ -1,5 +1,7 @@
 // Runs a script of calls on the map store, and compares each answer with the one that the script gives. The script is the file `stdin` beside this
 // folder; at its top stands what its lines mean.
+#![tactic(auto)]
+
 use libc::STDIN_FILENO;
 use map_store::MapHead;
 use script::line::Call;

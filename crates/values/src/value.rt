@@ -72,7 +72,7 @@ fn first_update(journal: &[u8], used: usize, k: u32) -> usize
 }
 
 // What a pass comes to: the value, and how many updates of the key it kept.
-#[derive(Drop)]
+#[derive(Clone, Copy)]
 struct Settled {
     value: Value,
     count: usize,

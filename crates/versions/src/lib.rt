@@ -1,4 +1,6 @@
 // The versions of the map store: lent columns of keys, commit times, values and marks, of which the first `used` rows count.
+#![tactic(auto)]
+
 mod conflict;
 mod search;
 
@@ -14,7 +16,7 @@ use rules::{Effect, Value};
 pub use search::newest_row;
 
 // What a commit gave a key: a row of the four columns. The mark is 0 unless adds alone made the value.
-#[derive(Drop)]
+#[derive(Clone, Copy)]
 pub struct Version {
     pub key: u32,
     pub time: u64,

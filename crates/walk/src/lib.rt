@@ -1,4 +1,6 @@
 // Section 5: recovery's walk. Each record must be one that an accepted call would write at its place.
+#![tactic(auto)]
+
 ghost use Rattle.std.specs.Prelude.{◌≡◌, true, ◌*◌, ◌<◌, ◌≤◌, length};
 ghost use Rattle.rules.specs.Limits.{most_records, most_running};
 ghost use Rattle.rules.specs.Kinds.{record_size, is_begin, is_commit};
@@ -17,7 +19,7 @@ const LAST_NUMBER: u32 = Journal::NO_NUMBER - 1;
 
 // What the records passed say: last, one more than the highest number begun, and the running transactions with their snapshots, the latest begun at
 // the end.
-#[derive(Drop)]
+#[derive(Clone, Copy)]
 struct State {
     last: u64,
     above: u64,
