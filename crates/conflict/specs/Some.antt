@@ -22,11 +22,13 @@ any_some p (r ∷ rs) h =
     (λ e. let s = any_some p rs (rw e at h) in record { at = s.at; here = Memᴰ.tail s.here; passes = s.passes })
 
 pub some_any : (p : Record → Bool) (r : Record) (rs : List Record) → Memᴰ r rs → p r ≡ true → any p rs ≡ true
+some_any p r [] m h = elim m [ ]
 some_any p r (x ∷ rs) (Memᴰ.head e) h = or_left (p x) (any p rs) (sym (ap p e) ∙ h)
 some_any p r (x ∷ rs) (Memᴰ.tail m) h = or_right (p x) (any p rs) (some_any p r rs m h)
 
 -- the records of a transaction are those records of the list that have its number
 pub in_of : (n : ℕ) (r : Record) (rs : List Record) → Memᴰ r rs → eqb r.transaction n ≡ true → Memᴰ r (of n rs)
+in_of n r [] m h = elim m [ ]
 in_of n r (x ∷ rs) (Memᴰ.head e) h =
     let g : eqb x.transaction n ≡ true = sym (ap (λ (y : Record). eqb y.transaction n) e) ∙ h in rw g (Memᴰ.head e)
 in_of n r (x ∷ rs) (Memᴰ.tail m) h =

@@ -36,6 +36,7 @@ among_latest k (suc n) xs h =
     rw (take-suc xs n 0 h, among_end k (get_or xs n 0) (take n xs), among_latest k n xs (omega arith))
 
 row_among : (j n : ℕ) (xs : List ℕ) → j < n → among (get_or xs j 0) (latest n xs) ≡ true
+row_among j zero xs h = elim h [ ]
 row_among j (suc n) xs h =
     split (ltb j n)
     (λ l. or_right (eqb (get_or xs n 0) (get_or xs j 0)) (among (get_or xs j 0) (latest n xs)) (row_among j n xs (ltb-true j n l)))

@@ -1,0 +1,20 @@
+-- `journal::times::late_numbers` meets its contract. The loop's invariant: the column holds the transactions of the late commits passed.
+-- Assumes nothing.
+use mathlib.Core.Path.{◌≡◌, refl}
+use mathlib.Core.Logic.{⊎_elim}
+use Prim.Native.Nat.{◌≤◌, ◌-◌, ◌+◌}
+use lib.ListN.{length, length-set}
+use Rattle.rules.specs.Checkpoints.{late}
+use Rattle.record.specs.Bytes.{records_in}
+use Rattle.record.specs.Walks.{onward}
+use Rattle.journal.specs.Gathered.{lates, Gathered}
+use Rattle.journal.specs.GatheredLaws.{gathered_none, gathered_more, gathered_same}
+use native.Mathlib.Omega.{arith}
+use Rattle.journal.proofs.times.late_numbers.Given as goal
+
+abbrev pub invariant-loop-i : goal.invariant-loop-i
+invariant-loop-i l =
+    (l.i ≤ l.used) × (length l.numbers ≡ length l.initial.numbers) × Gathered (lates l.s (records_in l.i l.journal)) l.i l.count l.initial.numbers l.numbers
+
+abbrev pub decreases-loop-i : goal.decreases-loop-i
+decreases-loop-i l = l.used - l.i

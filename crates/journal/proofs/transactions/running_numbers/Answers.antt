@@ -1,0 +1,38 @@
+-- `journal::transactions::running_numbers` meets its contract. The loop's invariant: the column holds the running transactions that the records
+-- passed begin, and top is one more than the highest number in them. Assumes nothing.
+use mathlib.Core.Path.{◌≡◌, refl}
+use mathlib.Core.Logic.{⊎_elim}
+use Prim.Native.Nat.{ℕ, ◌≤◌, ◌-◌, ◌+◌, max}
+use lib.ListN.{length, length-set}
+use Rattle.rules.specs.declared.Record.{Record}
+use Rattle.rules.specs.Transactions.{opens, running_in}
+use Rattle.record.specs.Bytes.{records_in}
+use Rattle.record.specs.Walks.{onward, turn}
+use Rattle.journal.specs.Ends.{top}
+use Rattle.journal.specs.Gathered.{Gathered}
+use Rattle.journal.specs.GatheredLaws.{gathered_none, gathered_more, gathered_same}
+use native.Mathlib.Omega.{arith}
+use Rattle.journal.proofs.transactions.running_numbers.Goals as goal
+
+pub loop-i-preserved : goal.loop-i-preserved
+loop-i-preserved c =
+    let l = c.loop-i in
+    let a = c.args in
+    let r = c.read-r in
+    let j = a.journal.now in
+    let rs = records_in l.i j in
+    let whole = records_in a.used j in
+    let test = opens whole r.result rs in (
+      omega arith,
+      ⊎_elim (λ w. rw w.1 (simp length-set l.invariant.1)) (λ w. rw w.1 l.invariant.1) c.if-opens_at.branch,
+      turn top (λ (x : Record) (m : ℕ). max m (x.transaction + 1)) (λ x rs. refl) j l.i _ _ _ c.at_least_after-top.ensures r.ensures l.invariant.2,
+      onward (λ ys. Gathered (running_in whole ys) (l.i + 1) c.if-opens_at.count a.numbers.now c.if-opens_at.numbers) j l.i _ r.ensures
+          (⊎_elim
+          (λ w.
+          gathered_more (running_in whole rs) l.i l.count a.numbers.now l.numbers l.invariant.3 test _ c.Opens-at.ensures
+          r.result.transaction _ _ (omega (arith, c.requires.1)) w.0.taken w.2 w.1)
+          (λ w.
+          gathered_same (running_in whole rs) l.i l.count a.numbers.now l.numbers l.invariant.3 test _ c.Opens-at.ensures
+          r.result.transaction _ _ w.0.left w.2 w.1)
+          c.if-opens_at.branch),
+    )

@@ -1,0 +1,18 @@
+-- `journal_store::commit::decide` meets its contract: a law for each way out. Assumes nothing.
+use mathlib.Core.Path.{sym, ◌∙◌}
+use Rattle.rules.specs.Bools.{failed, stood}
+use Rattle.record.specs.Bytes.{records_in}
+use Rattle.record.specs.Laws.{length_records}
+use Rattle.journal.specs.PastLaws.{past_last}
+use Rattle.journal_store.specs.Tests.{commit_unknown, commit_later, commit_conflict, commit_room}
+use Rattle.journal_store.proofs.commit.decide.Goals as goal
+
+pub conflict-requires : goal.conflict-requires
+conflict-requires c =
+    let a = c.args in
+    (c.requires.used_limit, c.requires.used, rw c.last-last.ensures (past_last a.h.low (records_in a.h.journal.used a.journal.now)))
+
+pub returns : goal.returns
+returns c =
+    commit_room (stood (rw c.follow-trace.ensures at c.runs.ensures) c.if-not-runs.false) c.last-last.ensures c.if-t-last.false
+    (sym (rw c.follow-trace.ensures at c.conflict.ensures) ∙ c.if-conflict.false) (length_records _ _) c.with_room.ensures

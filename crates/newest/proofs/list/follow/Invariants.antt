@@ -1,0 +1,19 @@
+-- `newest::list::follow` meets its contract. The loop's invariant: the cells passed are followed, the others as they were. The measure is how many
+-- are left.
+use mathlib.Core.Path.{◌≡◌, refl, sym, ap, ◌∙◌}
+use mathlib.Core.List.{List, [], ◌∷◌, ◌++◌, append_assoc}
+use Prim.Native.Nat.{ℕ, suc, ◌+◌, ◌-◌, ◌≤◌, ◌<◌}
+use native.Mathlib.Numerals.{add-one}
+use native.Mathlib.Omega.{arith}
+use lib.ListN.{length, take, drop, get_or, set, length-set}
+use lib.Seq.{drop-cons, take-suc, set_at, get_or_at, length-take-le}
+use Rattle.newest.specs.Newest.{followed}
+use Rattle.newest.specs.Laws.{length_followed, followed_more}
+use Rattle.newest.proofs.list.follow.Given as goal
+
+abbrev pub invariant-loop-i : goal.invariant-loop-i
+invariant-loop-i l =
+    (l.i ≤ l.n) × (length l.places ≡ length l.initial.places) × (l.places ≡ followed l.values (take l.i l.initial.places) ++ drop l.i l.initial.places)
+
+abbrev pub decreases-loop-i : goal.decreases-loop-i
+decreases-loop-i l = l.n - l.i

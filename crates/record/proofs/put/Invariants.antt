@@ -1,0 +1,22 @@
+-- `record::put` meets its contract. The loop's invariant: what is written up to i, with what is left of the number still to write, is what
+-- the contract says. The measure is what is left of the width. Assumes nothing.
+use mathlib.Core.Path.{◌≡◌, refl, sym, ◌∙◌}
+use mathlib.Core.List.{List, ◌++◌, append_assoc}
+use Prim.Native.Nat.{ℕ, suc, ◌≤◌, ◌<◌, ◌-◌, ◌+◌, ◌/◌, ◌%◌}
+use native.Mathlib.Omega.{arith}
+use native.Mathlib.Nat.{sub-zero, add-zero}
+use lib.ListN.{length, take, drop, set, length-set, take-append-drop}
+use lib.Seq.{take-suc-set, drop-set-lt}
+use Rattle.record.specs.Bytes.{le_bytes, written}
+use Rattle.record.proofs.put.Given as goal
+
+-- b as it will be: written up to i, and the rest of the number still to write
+abbrev pub whole : List ℕ → ℕ → ℕ → ℕ → ℕ → List ℕ
+whole b at width rest i = take (at + i) b ++ (le_bytes (width - i) rest ++ drop (at + width) b)
+
+abbrev pub invariant-loop-i : goal.invariant-loop-i
+invariant-loop-i l =
+    (l.i ≤ l.width) × (length l.bytes ≡ length l.initial.bytes) × (whole l.bytes l.at l.width l.rest l.i ≡ written l.initial.bytes l.at l.width l.v)
+
+abbrev pub decreases-loop-i : goal.decreases-loop-i
+decreases-loop-i l = l.width - l.i

@@ -1,0 +1,17 @@
+-- `sample::marked_from` meets its contract. The loop's invariant: the cells that are filled and those that are left, counted from `at` on
+-- modulo 256, are the whole column. Assumes nothing.
+use mathlib.Core.Path.{◌≡◌, refl}
+use mathlib.Core.List.{List, ◌++◌}
+use Prim.Native.Nat.{ℕ, suc, ◌+◌, ◌-◌, ◌%◌, ◌≤◌, ◌<◌}
+use native.Mathlib.Omega.{arith}
+use lib.ListN.{length, take, set, length-set}
+use Rattle.sample.specs.Sample.{marked_from}
+use Rattle.sample.proofs.Laid.{laid, all_laid}
+use Rattle.sample.proofs.marked_from.Given as goal
+
+abbrev pub invariant-loop-i : goal.invariant-loop-i
+invariant-loop-i l =
+    (l.i ≤ 32) × (l.at ≡ l.place + l.i) × (length l.cells ≡ 32) × (take l.i l.cells ++ marked_from l.at (32 - l.i) ≡ marked_from l.place 32)
+
+abbrev pub decreases-loop-i : goal.decreases-loop-i
+decreases-loop-i l = 32 - l.i

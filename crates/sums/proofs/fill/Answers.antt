@@ -1,0 +1,20 @@
+-- `sums::fill` meets its contract: what is left to fill completes to the answer, and each turn leaves one byte less. Assumes nothing.
+use Rattle.std.proofs.Common.{◌≡◌, ◌-◌, length, arith, length-set, rules}
+use native.Mathlib.Nat.{min-le_right}
+use Rattle.sums.proofs.Turns.{byte_filled}
+use Rattle.sums.specs.Sums.{fill_on, filled}
+use Rattle.sums.proofs.fill.Goals as goal
+
+unfolding filled
+loop-holds c = (search rules, rw c.least.ensures)
+
+-- UNREAD loop-holds : tie.Need-loop-init invariant-loop decreases-loop
+
+pub loop-i-preserved : goal.loop-i-preserved
+loop-i-preserved c =
+    let l = c.loop-i in
+    let a = c.args in (
+      simp length-set l.invariant.0,
+      byte_filled a.value l.bytes l.i c.least-end.result (filled a.bytes.now a.from
+          a.to a.value) l.invariant.1 (search rules),
+    )

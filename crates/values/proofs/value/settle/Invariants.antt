@@ -1,0 +1,38 @@
+-- `values::value::settle` meets its contract. The loop's invariant says what the kept updates do and not what they hold: for every transaction they do
+-- what the first i records do to the key; and v is the value of the first i records. The measure is how many are left. Assumes nothing.
+use mathlib.Core.Path.{◌≡◌, refl, sym, ◌∙◌}
+use mathlib.Core.Bool.{true, false, ◌&&◌}
+use mathlib.Core.List.{List}
+use mathlib.Core.Logic.{⊎_elim}
+use Prim.Native.Nat.{ℕ, ◌+◌, ◌-◌, ◌*◌, ◌≤◌, ◌<◌}
+use native.Mathlib.Numerals.{add-one}
+use native.Mathlib.Omega.{arith}
+use lib.Dec.{leb}
+use lib.ListN.{length, set, length-set}
+use Rattle.rules.specs.declared.Record.{Record}
+use Rattle.rules.specs.declared.Value.{Value}
+use Rattle.rules.specs.Kinds.{record_size, is_commit}
+use Rattle.rules.specs.Effects.{effects, writes}
+use Rattle.rules.specs.Transactions.{of}
+use Rattle.rules.specs.Values.{settle, value}
+use Rattle.record.specs.Bytes.{records_in, record_at}
+use Rattle.record.specs.Walks.{finish, arrived}
+use Rattle.values.specs.Pass.{kept_step, kept_effects, Does}
+use Rattle.values.specs.PassLaws.{kept_more, effects_more, effects_none, effects_unwritten, value_unwritten}
+use Rattle.values.proofs.value.settle.Given as goal
+
+-- before the record at i
+pub record Pass (j : List ℕ) (start : Value) (k t i : ℕ) (transactions₀ kinds₀ amounts₀ transactions kinds amounts : List ℕ) (n : ℕ) (v : Value) : Type 0 where
+  few : n ≤ i
+  transactions_room : length transactions ≡ length transactions₀
+  kinds_room : length kinds ≡ length kinds₀
+  amounts_room : length amounts ≡ length amounts₀
+  does : Does k (records_in i j) transactions kinds amounts n
+  is : v ≡ value start k t (records_in i j)
+
+abbrev pub invariant-loop-i : goal.invariant-loop-i
+invariant-loop-i l =
+    (l.i ≤ l.used) × Pass l.journal l.initial.v l.k l.t l.i l.initial.transactions l.initial.kinds l.initial.amounts l.transactions l.kinds l.amounts l.n l.v
+
+abbrev pub decreases-loop-i : goal.decreases-loop-i
+decreases-loop-i l = l.used - l.i

@@ -1,0 +1,87 @@
+-- `versions::search::newer_row` meets its contract: each way out is the case of `newestStep` that its tests lead to.
+use mathlib.Core.Path.{◌≡◌, sym, ◌∙◌}
+use Prim.Native.Nat.{ℕ, ◌+◌, ◌≤◌, ◌<◌}
+use native.Mathlib.Numerals.{add-one}
+use native.Mathlib.Omega.{arith}
+use borrow.Author.Tests.{eq-eqb, ne_eqb, le-leb, lt-leb, lt-ltb, le-ltb}
+use lib.ListN.{get_or}
+use Rattle.column.specs.declared.Found.{Found}
+use Rattle.column.specs.declared.Found.TheVariants.{At, Nothing}
+use Rattle.versions.specs.Versions.{Columns, no_columns, keyed, versions_of, newest, row_of}
+use Rattle.versions.specs.Laws.{length_versions, found_version, found_newest, none_found}
+use Rattle.versions.proofs.search.newer_row.Goals as goal
+
+module _ (cs : Columns) (i k t : ℕ) (best : Found) (pre : best ≡ row_of (newest k t (versions_of i cs))) where
+  other : (get_or cs.keys i 0 ≡ k → ⊥) → best ≡ row_of (newest k t (versions_of (i + 1) cs))
+  other h = rw (add-one, ne_eqb (get_or cs.keys i 0) k h) pre
+
+  module _ (a : get_or cs.keys i 0 ≡ k) where
+    late : t < get_or cs.times i 0 → best ≡ row_of (newest k t (versions_of (i + 1) cs))
+    late l = rw (add-one, eq-eqb (get_or cs.keys i 0) k a, lt-leb (get_or cs.times i 0) t l) pre
+
+    module _ (b : get_or cs.times i 0 ≤ t) where
+      first : best ≡ Nothing → At i ≡ row_of (newest k t (versions_of (i + 1) cs))
+      first e =
+          rw (
+            add-one,
+            none_found k t cs i (sym pre ∙ e),
+            eq-eqb (get_or cs.keys i 0) k a,
+            le-leb (get_or cs.times i 0) t b,
+            length_versions i cs,
+          )
+
+      module _ (j : ℕ) (e : best ≡ At j) where
+        newer : get_or cs.times j 0 < get_or cs.times i 0 → At i ≡ row_of (newest k t (versions_of (i + 1) cs))
+        newer l =
+            rw (
+              add-one,
+              found_version k t cs i (sym pre ∙ e),
+              eq-eqb (get_or cs.keys i 0) k a,
+              le-leb (get_or cs.times i 0) t b,
+              lt-ltb (get_or cs.times j 0) (get_or cs.times i 0) l,
+              length_versions i cs,
+            )
+
+        not_newer : get_or cs.times i 0 ≤ get_or cs.times j 0 → At j ≡ row_of (newest k t (versions_of (i + 1) cs))
+        not_newer l =
+            rw (
+              add-one,
+              found_version k t cs i (sym pre ∙ e),
+              eq-eqb (get_or cs.keys i 0) k a,
+              le-leb (get_or cs.times i 0) t b,
+              le-ltb (get_or cs.times j 0) (get_or cs.times i 0) l,
+            )
+
+  -- the row found is one before row i
+  within : (j : ℕ) → best ≡ At j → j < i
+  within j e = (found_newest k t cs i (sym pre ∙ e)).row
+
+pub offset_bounds-times-j : goal.offset_bounds-times-j
+offset_bounds-times-j c =
+    let a = c.args in
+    let cs = keyed a.keys.now a.times.now no_columns in
+    omega (arith, within cs a.i a.k a.t a.best (c.requires.2 cs) _ c.best-1.given.1)
+
+pub bounds-times-j : goal.bounds-times-j
+bounds-times-j c =
+    let a = c.args in
+    let cs = keyed a.keys.now a.times.now no_columns in
+    omega (arith, within cs a.i a.k a.t a.best (c.requires.2 cs) _ c.best-1.given.1)
+
+pub returns-then-times-j : goal.returns-then-times-j
+returns-then-times-j c =
+    let a = c.args in
+    let cs = keyed a.keys.now a.times.now others in
+    newer cs a.i a.k a.t a.best (c.requires.2 cs) c.if-keys-i.false c.if-times-i.false _ c.best-1.given.1 c.if-times-j.true
+
+pub returns-else-times-j : goal.returns-else-times-j
+returns-else-times-j c =
+    let a = c.args in
+    let cs = keyed a.keys.now a.times.now others in
+    not_newer cs a.i a.k a.t a.best (c.requires.2 cs) c.if-keys-i.false c.if-times-i.false _ c.best-1.given.1 c.if-times-j.false
+
+pub returns-in-Nothing : goal.returns-in-Nothing
+returns-in-Nothing c =
+    let a = c.args in
+    let cs = keyed a.keys.now a.times.now others in
+    first cs a.i a.k a.t a.best (c.requires.2 cs) c.if-keys-i.false c.if-times-i.false c.enum_told-1.given.1

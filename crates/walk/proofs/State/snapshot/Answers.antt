@@ -1,0 +1,52 @@
+-- `walk::State::snapshot` meets its contract: the row that has the number has its snapshot. Assumes nothing.
+use mathlib.Core.Path.{◌≡◌, sym, ap, ◌∙◌}
+use Prim.Native.Nat.{ℕ, ◌<◌}
+use lib.ListN.{take, get_or, length-take}
+use lib.Seq.{get_or-take}
+use Rattle.rules.specs.Bools.{not_both}
+use Rattle.rules.specs.Lists.{among}
+use Rattle.column.specs.declared.Found.{Found}
+use Rattle.column.specs.declared.Found.TheVariants.{At, Nothing}
+use Rattle.column.specs.Column.{first_row}
+use Rattle.column.specs.Laws.{First, first_at}
+use Rattle.walk.specs.declared.State.{State}
+use Rattle.column.specs.Among.{is_found}
+use Rattle.column.specs.AmongLaws.{found_among}
+use Rattle.walk.specs.Walk.{SnapshotOf}
+use native.Mathlib.Omega.{arith}
+use Rattle.walk.proofs.State.snapshot.Goals as goal
+
+module _ (s : State) (n : ℕ) (f : Found) (e : f ≡ first_row n (take s.count s.numbers)) where
+  module _ (j : ℕ) (d : f ≡ At j) where
+    first : First n (take s.count s.numbers) j
+    first = first_at n (take s.count s.numbers) (sym e ∙ d)
+
+    used : j < s.count
+    used = omega (arith, first.row, length-take s.count s.numbers)
+
+    there : SnapshotOf s n (get_or s.snapshots j 0)
+    there snap h a = h j used ∙ ap snap (sym (get_or-take s.count s.numbers j 0 used) ∙ first.key)
+
+  nowhere : f ≡ Nothing → SnapshotOf s n 0
+  nowhere d snap h a =
+      not_both (among n (take s.count s.numbers)) a (sym (found_among 0 n (take s.count s.numbers)) ∙ ap is_found (sym e ∙ d))
+
+pub offset_bounds-snapshots-j : goal.offset_bounds-snapshots-j
+offset_bounds-snapshots-j c =
+    let a = c.args in
+    omega (arith, used a.self a.n _ c.find.ensures _ c.j-1.given.1)
+
+pub bounds-snapshots-j : goal.bounds-snapshots-j
+bounds-snapshots-j c =
+    let a = c.args in
+    omega (arith, used a.self a.n _ c.find.ensures _ c.j-1.given.1)
+
+pub returns-in-At : goal.returns-in-At
+returns-in-At c =
+    let a = c.args in
+    there a.self a.n _ c.find.ensures _ c.j-1.given.1
+
+pub returns-in-Nothing : goal.returns-in-Nothing
+returns-in-Nothing c =
+    let a = c.args in
+    nowhere a.self a.n _ c.find.ensures c.enum_told-1.given.1

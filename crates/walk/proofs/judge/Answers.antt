@@ -1,0 +1,57 @@
+-- `walk::judge` meets its contract: the five tests in their order. Assumes nothing.
+use mathlib.Core.Path.{◌≡◌, sym, ◌∙◌}
+use mathlib.Core.Bool.{Bool, true, false}
+use mathlib.Core.List.{List}
+use Prim.Native.Nat.{ℕ}
+use borrow.Author.Tests.{not-true, not-false}
+use Rattle.rules.specs.declared.Record.{Record}
+use Rattle.rules.specs.Recovery.{formed, limited, clear, judge}
+use Rattle.record.specs.Bytes.{records_in}
+use Rattle.walk.specs.declared.State.{State}
+use Rattle.walk.specs.Walk.{Tracks, numbered_by, timely_by}
+use Rattle.walk.specs.Laws.{numbered_by_lem, timely_by_lem, past_by, commit_runs}
+use Rattle.walk.proofs.judge.Goals as goal
+
+module _ (low : ℕ) (rs : List Record) (r : Record) (s : State) (h : Tracks low rs s) (f : Bool) (fe : f ≡ formed r) where
+  misformed : f ≡ false → false ≡ judge low rs r
+  misformed q = rw (sym fe ∙ q)
+
+  module _ (ft : f ≡ true) (n : Bool) (ne : n ≡ numbered_by s r) where
+    misnumbered : n ≡ false → false ≡ judge low rs r
+    misnumbered q = rw (sym fe ∙ ft, sym (numbered_by_lem low rs r s h) ∙ sym ne ∙ q)
+
+    module _ (nt : n ≡ true) (t : Bool) (te : t ≡ timely_by low s r) where
+      untimely : t ≡ false → false ≡ judge low rs r
+      untimely q = rw (sym fe ∙ ft, sym (numbered_by_lem low rs r s h) ∙ sym ne ∙ nt, sym (timely_by_lem low rs r s h) ∙ sym te ∙ q)
+
+      module _ (tt : t ≡ true) (l : Bool) (le : l ≡ limited rs r) where
+        unlimited : l ≡ false → false ≡ judge low rs r
+        unlimited q =
+            rw (sym fe ∙ ft, sym (numbered_by_lem low rs r s h) ∙ sym ne ∙ nt, sym (timely_by_lem low rs r s h) ∙ sym te ∙ tt, sym le ∙ q)
+
+        cleared : l ≡ true → (b : Bool) → b ≡ clear rs r → b ≡ judge low rs r
+        cleared q b e =
+            rw (sym fe ∙ ft, sym (numbered_by_lem low rs r s h) ∙ sym ne ∙ nt, sym (timely_by_lem low rs r s h) ∙ sym te ∙ tt, sym le ∙ q) e
+
+pub returns-then-not-numbered : goal.returns-then-not-numbered
+returns-then-not-numbered c =
+    let a = c.args in
+    misnumbered a.low (records_in a.i a.journal.now) a.r a.s c.requires.2 _ c.formed.ensures (not-false _ c.if-not-formed.false) _
+    c.numbered.ensures (not-true _ c.if-not-numbered.true)
+
+pub clear-requires : goal.clear-requires
+clear-requires c =
+    let a = c.args in (
+      c.requires.0,
+      c.requires.1,
+      c.requires.2.opened,
+      past_by a.low (records_in a.i a.journal.now) a.r a.s c.requires.2,
+      commit_runs a.low (records_in a.i a.journal.now) a.r a.s c.requires.2 (sym c.numbered.ensures ∙ not-false _ c.if-not-numbered.false),
+    )
+
+pub returns : goal.returns
+returns c =
+    let a = c.args in
+    cleared a.low (records_in a.i a.journal.now) a.r a.s c.requires.2 _ c.formed.ensures (not-false _ c.if-not-formed.false) _
+    c.numbered.ensures (not-false _ c.if-not-numbered.false) _ c.timely.ensures (not-false _ c.if-not-timely.false) _ c.limited.ensures
+    (not-false _ c.if-not-limited.false) _ c.clear.ensures

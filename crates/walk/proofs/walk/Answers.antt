@@ -1,0 +1,54 @@
+-- `walk::walk` meets its contract. The loop's invariant: the state is that of the records passed, and all of them are accepted.
+-- Assumes nothing.
+use mathlib.Core.Path.{◌≡◌, refl, sym, ap, ◌∙◌}
+use mathlib.Core.Bool.{Bool, true, false}
+use mathlib.Core.List.{List, []}
+use Prim.Native.Nat.{ℕ, ◌+◌, ◌-◌, ◌*◌, ◌≤◌, ◌<◌}
+use borrow.Author.Tests.{not-true, not-false}
+use Rattle.rules.specs.declared.Record.{Record}
+use Rattle.rules.specs.declared.Walked.TheVariants.{Whole, BadAt}
+use Rattle.rules.specs.Kinds.{record_size}
+use Rattle.rules.specs.Recovery.{judge, walk}
+use Rattle.record.specs.Bytes.{record_at, records_in}
+use Rattle.record.specs.Laws.{length_records}
+use Rattle.record.specs.Walks.{onward}
+use Rattle.walk.specs.declared.State.{State}
+use Rattle.walk.specs.Walk.{started, Tracks}
+use Rattle.walk.specs.Judged.{walk_more, walk_bad, walk_stays}
+use Rattle.walk.specs.Laws.{started_tracks, begin_room}
+use native.Mathlib.Omega.{arith}
+use Rattle.walk.proofs.walk.Goals as goal
+
+start : (low : ℕ) (s : State) → s ≡ started low → Tracks low [] s
+start low s e = rw e (started_tracks low)
+
+module _ (low i : ℕ) (b : List ℕ) (r : Record) (v : Bool) (e : r ≡ record_at b (i * record_size)) (d : v ≡ judge low (records_in i b) r)
+    (w : walk low (records_in i b) ≡ Whole) where
+  stops : (used : ℕ) → i < used → v ≡ false → BadAt i ≡ walk low (records_in used b)
+  stops used l f =
+      let found : walk low (records_in (i + 1) b) ≡ BadAt i =
+      onward (λ rs. walk low rs ≡ BadAt i) b i r e (walk_bad low r (records_in i b) (sym d ∙ f) w ∙ ap BadAt (length_records i b))
+      in
+      sym (walk_stays low (i + 1) used i b (omega arith) found)
+
+  goes : v ≡ true → walk low (records_in (i + 1) b) ≡ Whole
+  goes t = onward (λ rs. walk low rs ≡ Whole) b i r e (walk_more low r (records_in i b) (sym d ∙ t) w)
+
+pub returns-then-not-judge : goal.returns-then-not-judge
+returns-then-not-judge c =
+    let l = c.loop-i in
+    let a = c.args in
+    stops a.low l.i a.journal.now c.read-r.result _ c.read-r.ensures c.judge.ensures l.invariant.2 a.used (omega arith)
+    (not-true _ c.if-not-judge.true)
+
+pub loop-i-preserved : goal.loop-i-preserved
+loop-i-preserved c =
+    let l = c.loop-i in
+    let a = c.args in
+    let b = a.journal.now in
+    let t = not-false c.judge.result c.if-not-judge.false in (
+      omega arith,
+      onward (λ rs. Tracks a.low rs c.step-s.result) b l.i c.read-r.result c.read-r.ensures
+          (c.step-s.ensures a.low (records_in l.i b) l.invariant.1 (sym c.judge.ensures ∙ t)),
+      goes a.low l.i b c.read-r.result _ c.read-r.ensures c.judge.ensures l.invariant.2 t,
+    )
