@@ -19,5 +19,5 @@ eight b at low high h l k =
 
 pub returns-in-Eight : goal.returns-in-Eight
 returns-in-Eight c =
-    let h : c.args.at + 8 ≤ length c.args.bytes.now = rw c.enum_told-in-Eight-1.given.1 at c.requires in
-    rw c.enum_told-in-Eight-1.given.1 (eight c.args.bytes.now c.args.at _ _ h c.four-low.ensures c.four-high.ensures)
+    let h : c.args.at + 8 ≤ length c.args.bytes.now = rw c.in-Eight.is at c.requires in
+    rw c.in-Eight.is (eight c.args.bytes.now c.args.at _ _ h c.four-low.ensures c.four-high.ensures)

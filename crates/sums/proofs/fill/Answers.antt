@@ -5,10 +5,9 @@ use Rattle.sums.proofs.Turns.{byte_filled}
 use Rattle.sums.specs.Sums.{fill_on, filled}
 use Rattle.sums.proofs.fill.Goals as goal
 
+pub loop-i-init : goal.loop-i-init
 unfolding filled
-loop-holds c = (search rules, rw c.least.ensures)
-
--- UNREAD loop-holds : tie.Need-loop-init invariant-loop decreases-loop
+loop-i-init c = (search rules, rw c.least-end.ensures)
 
 pub loop-i-preserved : goal.loop-i-preserved
 loop-i-preserved c =

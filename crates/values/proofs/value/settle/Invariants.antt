@@ -23,12 +23,12 @@ use Rattle.values.proofs.value.settle.Given as goal
 
 -- before the record at i
 pub record Pass (j : List ℕ) (start : Value) (k t i : ℕ) (transactions₀ kinds₀ amounts₀ transactions kinds amounts : List ℕ) (n : ℕ) (v : Value) : Type 0 where
-  few : n ≤ i
-  transactions_room : length transactions ≡ length transactions₀
-  kinds_room : length kinds ≡ length kinds₀
-  amounts_room : length amounts ≡ length amounts₀
-  does : Does k (records_in i j) transactions kinds amounts n
-  is : v ≡ value start k t (records_in i j)
+  pub few : n ≤ i
+  pub transactions_room : length transactions ≡ length transactions₀
+  pub kinds_room : length kinds ≡ length kinds₀
+  pub amounts_room : length amounts ≡ length amounts₀
+  pub does : Does k (records_in i j) transactions kinds amounts n
+  pub is : v ≡ value start k t (records_in i j)
 
 abbrev pub invariant-loop-i : goal.invariant-loop-i
 invariant-loop-i l =
