@@ -7,7 +7,7 @@ use Rattle.rules.specs.Lists.{among}
 use Rattle.rules.specs.Recovery.{survivors}
 use Rattle.rules.specs.Calls.{last_of, next_of, running_of, runs_in, value_of, list_of, read_of, Abort}
 use Rattle.rules.specs.Bools.{split}
-use Rattle.rules.specs.Listing.{list_lists, lists_unique}
+use Rattle.rules.proofs.Listing.{list_lists, lists_unique}
 use Rattle.history.specs.History.{Runner, Deed, Did, numbers, history, aborting, restarted, value_in, reads, list_in}
 use Rattle.history.specs.Refusals.{last_in}
 use Rattle.history.proofs.Course.{Course, lose, recovered}

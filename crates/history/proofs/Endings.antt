@@ -5,7 +5,7 @@ use Rattle.std.proofs.Common.{ap, sym, ◌∙◌, arith, eqb-true, le-leb}
 use Rattle.rules.specs.Bools.{split}
 use Rattle.rules.specs.Lists.{among}
 use Rattle.rules.specs.Running.{running_runs}
-use Rattle.rules.specs.RoomLaws.{fewer}
+use Rattle.rules.proofs.RoomLaws.{fewer}
 use Rattle.rules.specs.Calls.{Store, last_of, runs_in, conflict_in, Call, Abort, Commit, refusal, answer}
 use Rattle.rules.specs.declared.Value.TheVariants.{Absent}
 use Rattle.answer.specs.Reply.{Reply, accepted, told}

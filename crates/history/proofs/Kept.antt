@@ -9,7 +9,7 @@ use Rattle.rules.specs.Conflicts.{met_on, committed_after, touched, clashes, con
 use Rattle.rules.specs.Meeting.{ReadsUpdates, met_reads, touched_same}
 use Rattle.rules.specs.Checkpoints.{raise, sift}
 use Rattle.rules.specs.Bools.{split, and_left, and_right, and_both, or_left, or_right, implies_false, and_false}
-use Rattle.rules.specs.KeptLaws.{raised, of_kept, above_sift, kept_fewer, running_sift, raised_begin, raised_end, raised_updates, met_raised, raised_wrote, raised_keys, raised_snapshot}
+use Rattle.rules.proofs.KeptLaws.{raised, of_kept, above_sift, kept_fewer, running_sift, raised_begin, raised_end, raised_updates, met_raised, raised_wrote, raised_keys, raised_snapshot}
 use Rattle.journal.specs.PastLaws.{low_last}
 use Rattle.history.proofs.Good.{Step, Good, none, more}
 use Rattle.history.proofs.GoodLaws.{commit_begins, begun_of}

@@ -14,7 +14,7 @@ use Rattle.journal.specs.PastLaws.{low_last}
 use Rattle.history.proofs.Good.{Good, none, more}
 use Rattle.history.proofs.GoodLaws.{good_known, fresh, unended, begun_of}
 use Rattle.history.proofs.Alike.{Alike}
-use Rattle.rules.specs.KeptLaws.{raised, of_kept, above_onto, running_sift, kept_all, runs_sift, of_none}
+use Rattle.rules.proofs.KeptLaws.{raised, of_kept, above_onto, running_sift, kept_all, runs_sift, of_none}
 use Rattle.history.proofs.Kept.{Fitting, fit_none, fit_more, last_low, last_sift, touched_sift, good_sift}
 use Rattle.history.proofs.ValueSince.{value_since, since_moved, since_sift}
 

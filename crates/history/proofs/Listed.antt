@@ -8,7 +8,7 @@ use Rattle.rules.specs.declared.Effect.TheVariants.{Assign, Add}
 use Rattle.rules.specs.Effects.{applied}
 use Rattle.rules.specs.Lists.{among}
 use Rattle.rules.specs.Bools.{split, or_none_left, or_none_right, and_false}
-use Rattle.rules.specs.Listing.{Lists, listed_lists}
+use Rattle.rules.proofs.Listing.{Lists, listed_lists}
 use Rattle.history.specs.History.{Change, Commitment, making, value_in, changed_keys, committed_keys, list_in, changes, written_by, is_present}
 
 making_present : (k : ℕ) (cs : List Change) (v : Value) → is_present (making k cs v) ≡ (changes k cs || is_present v)

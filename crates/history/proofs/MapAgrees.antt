@@ -24,7 +24,7 @@ use Rattle.versions.specs.declared.Version.{Version}
 use Rattle.versions.specs.Versions.{later, thin}
 use Rattle.map_store.specs.Meaning.{MapStore, current, rows_at, updated_place, stamp, map_after}
 use Rattle.history.proofs.Kept.{last_low}
-use Rattle.rules.specs.RoomLaws.{fewer}
+use Rattle.rules.proofs.RoomLaws.{fewer}
 use Rattle.history.proofs.MapVersions.{ordered, value_stamp, later_stamp, ordered_stamp, ordered_thin, later_thin, value_thin}
 use Rattle.history.proofs.MapPlaces.{has_among, note_keys_lem, adds_at, adds_note, firsts_written, adds_written, unexcused_keys, is_free, once, open_other, open_same, open_count, open_length, open_once, amend_other, amend_once, amend_length, amend_taken, amend_free}
 use Rattle.versions.specs.Versions as versions

@@ -8,7 +8,7 @@ use Rattle.rules.specs.Transactions.{of, keys_written}
 use Rattle.rules.specs.Lists.{among}
 use Rattle.slot.specs.RowLaws.{length_keys}
 use Rattle.rules.specs.Calls.{runs_in, Call, Begin, Update, Abort, Commit}
-use Rattle.rules.specs.Listing.{lists_unique}
+use Rattle.rules.proofs.Listing.{lists_unique}
 use Rattle.slot.specs.Places.{Place, place_of}
 use Rattle.map_store.specs.Meaning.{rows_at}
 use Rattle.history.specs.History.{Deed, numbers, changes_of, history, value_in, reads, list_in}

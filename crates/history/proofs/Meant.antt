@@ -13,7 +13,7 @@ use Rattle.rules.specs.Columns.{row_values}
 use Rattle.rules.specs.Recovery.{survivors}
 use Rattle.rules.specs.Calls.{Store, next_of, list_of, Call, record_of, refusal, checkpoint_refusal, need, answer, checkpoint_answer, kept_of}
 use Rattle.rules.specs.Passed.{fitting}
-use Rattle.rules.specs.RoomLaws.{Roomy, room_for_each}
+use Rattle.rules.proofs.RoomLaws.{Roomy, room_for_each}
 use Rattle.record.specs.Bytes.{Bytes, records_in, appended}
 use Rattle.record.specs.Laws.{records_front, length_records, drop_records}
 use Rattle.answer.specs.Reply.{Reply, after}

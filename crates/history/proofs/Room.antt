@@ -6,11 +6,11 @@ use Rattle.rules.specs.Transactions.{runs, running}
 use Rattle.rules.specs.Recovery.{done, survivors}
 use Rattle.rules.specs.Calls.{checkpoint_refusal, checkpointed}
 use Rattle.rules.specs.Bools.{not_both}
-use Rattle.rules.specs.RoomLaws.{Roomy}
+use Rattle.rules.proofs.RoomLaws.{Roomy}
 use Rattle.compact.specs.Laws.{length_kept, length_only}
 use Rattle.history.specs.History.{Checkpointed}
 use Rattle.history.proofs.Course.{Course, lose, recovered}
-use Rattle.rules.specs.KeptLaws.{numbers_kept, kept_all}
+use Rattle.rules.proofs.KeptLaws.{numbers_kept, kept_all}
 use Rattle.history.proofs.Recovered.{survivors_none}
 use Rattle.history.proofs.Allowed.{allowed}
 use Rattle.history.proofs.Tied.{Tied, now, alike_checkpointed}

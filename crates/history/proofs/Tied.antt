@@ -15,7 +15,7 @@ use Rattle.rules.specs.Recovery.{done, only}
 use Rattle.rules.specs.Calls.{Store, empty, last_of, next_of, runs_in, snapshot_in, value_of, Call, Begin, Update, Abort, Commit, record_of, refusal, checkpoint_refusal, push, checkpointed, kept_of, list_of}
 use Rattle.rules.specs.Bools.{split, implies_false}
 use Rattle.rules.specs.Running.{not_ended}
-use Rattle.rules.specs.Listing.{list_lists}
+use Rattle.rules.proofs.Listing.{list_lists}
 use Rattle.journal.specs.PastLaws.{low_last}
 use Rattle.history.specs.History.{Deed, Did, Checkpointed, numbers, history, restarted_by, restarted}
 use Rattle.history.proofs.Course.{Course, lose, recovered_by, recovered, walk_low}

@@ -11,7 +11,7 @@ use Rattle.rules.specs.Times.{last}
 use Rattle.rules.specs.Values.{settle, value}
 use Rattle.rules.specs.Checkpoints.{late, sift}
 use Rattle.rules.specs.Bools.{split}
-use Rattle.rules.specs.KeptLaws.{of_kept, raised_effects}
+use Rattle.rules.proofs.KeptLaws.{of_kept, raised_effects}
 use Rattle.journal.specs.PastLaws.{low_last}
 use Rattle.history.proofs.Good.{Good, none, more}
 use Rattle.history.proofs.GoodLaws.{commit_begins, last_more}

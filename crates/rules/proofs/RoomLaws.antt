@@ -10,7 +10,7 @@ use Rattle.rules.specs.Calls.{Store, next_of, Call, Begin, Update, Abort, Commit
 use Rattle.rules.specs.Bools.{split, and_left, and_right, not_both, implies_false, or_false}
 use Rattle.rules.specs.Running.{not_ended, running_skip, running_end}
 use Rattle.rules.specs.Passed.{passed, fitting}
-use Rattle.rules.specs.KeptLaws.{any_more}
+use Rattle.rules.proofs.KeptLaws.{any_more}
 
 module _ (n : ℕ) (whole : List Record) where
   -- a number that did not begin is not taken away
