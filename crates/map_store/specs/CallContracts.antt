@@ -1,5 +1,5 @@
 -- The contracts of the calls: the answer, the head and every lent column, for a store of any shape. Assumes nothing.
-use Rattle.std.specs.Prelude.{◌≡◌, cond, List, ◌++◌, ℕ, ◌+◌, eqb, length, drop}
+use Rattle.std.specs.Prelude.{◌≡◌, cond, List, ◌++◌, ℕ, eqb, length, drop}
 use Rattle.rules.specs.declared.Value.TheVariants.{Absent, Present}
 use Rattle.rules.specs.Lists.{row_keys}
 use Rattle.rules.specs.Columns.{row_values}

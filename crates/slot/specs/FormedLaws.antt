@@ -1,5 +1,5 @@
 -- The slots are formed when they are empty, and stay so whatever is opened, noted or closed; formed slots pass the shape test. Assumes nothing.
-use Rattle.std.specs.Prelude.{true, false, ◌≡◌, refl, ℕ, ◌<◌, eqb, ltb, set}
+use Rattle.std.specs.Prelude.{true, ◌≡◌, refl, ℕ, ◌<◌, eqb, ltb, set}
 use Rattle.std.proofs.lemmas.Bool.{false≢true, eqb-false}
 use Rattle.std.proofs.Common.{sym, ◌∙◌, arith, eqb-true, ltb-true, length-set, get_or-set_same, get_or-set_other}
 use Rattle.rules.specs.declared.Effect.{Effect}

@@ -1,5 +1,5 @@
 -- `map_store::current_value` meets its contract: what the row found makes of the value at the snapshot, or that value. Assumes nothing.
-use mathlib.Core.Path.{◌≡◌, sym, ◌∙◌}
+use mathlib.Core.Path.{◌≡◌, refl, sym, ◌∙◌}
 use mathlib.Core.List.{List}
 use Prim.Native.Nat.{ℕ}
 use Rattle.rules.specs.declared.Effect.{Effect}
@@ -25,13 +25,13 @@ module _ (s : Slot) (w : Rowed s) (k : ℕ) (vs : List Version) (f : Found) (e :
   seen g d = rw (makes_row s w k, sym e ∙ g) d
 
 pub returns-in-At : goal.returns-in-At
-returns-in-At c =
+returns-in-At c marks =
     let a = c.args in
     let cs = columns a.keys.now a.times.now a.values.now marks in
-    own a.s c.requires.0 a.k (versions_of a.used cs) _ c.find.ensures.0 _ _ c.i-1.given.1 _ c.effect-e.ensures (c.applied_at.ensures marks)
+    own a.s c.requires.0 a.k (versions_of a.used cs) _ c.in-At.ensures.value _ _ refl _ c.effect-e.ensures (c.applied_at.ensures marks)
 
 pub returns-in-Nothing : goal.returns-in-Nothing
-returns-in-Nothing c =
+returns-in-Nothing c marks =
     let a = c.args in
     let cs = columns a.keys.now a.times.now a.values.now marks in
-    seen a.s c.requires.0 a.k (versions_of a.used cs) _ c.find.ensures.0 _ c.enum_told-1.given.1 (c.value_at.ensures marks)
+    seen a.s c.requires.0 a.k (versions_of a.used cs) _ c.in-Nothing.ensures.value _ refl (c.value_at.ensures marks)

@@ -1,9 +1,8 @@
 -- `versions::pass` meets its contract. The loop's invariant: the rows before i are passed. The measure is how many rows are left.
 use mathlib.Core.Path.{sym, ◌∙◌}
-use Prim.Native.Nat.{◌+◌, ◌-◌}
+use Prim.Native.Nat.{◌+◌}
 use native.Mathlib.Omega.{arith}
-use Rattle.versions.specs.Search.{Passed}
-use Rattle.versions.specs.SearchLaws.{passed_none, passed_more}
+use Rattle.versions.specs.SearchLaws.{passed_more}
 use Rattle.versions.proofs.pass.Goals as goal
 
 pub loop-i-preserved : goal.loop-i-preserved

@@ -1,9 +1,6 @@
 -- `versions::pass` meets its contract. The loop's invariant: the rows before i are passed. The measure is how many rows are left.
-use mathlib.Core.Path.{sym, ◌∙◌}
-use Prim.Native.Nat.{◌+◌, ◌-◌}
-use native.Mathlib.Omega.{arith}
+use Prim.Native.Nat.{◌-◌}
 use Rattle.versions.specs.Search.{Passed}
-use Rattle.versions.specs.SearchLaws.{passed_none, passed_more}
 use Rattle.versions.proofs.pass.Given as goal
 
 abbrev pub invariant-loop-i : goal.invariant-loop-i

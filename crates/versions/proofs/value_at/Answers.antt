@@ -1,5 +1,5 @@
 -- `versions::value_at` meets its contract: the row found is a used one, and the value that stands there is the newest version's.
-use mathlib.Core.Path.{◌≡◌, sym, ◌∙◌}
+use mathlib.Core.Path.{◌≡◌, refl, sym, ◌∙◌}
 use mathlib.Core.List.{[]}
 use Prim.Native.Nat.{ℕ, ◌<◌}
 use native.Mathlib.Omega.{arith}
@@ -25,22 +25,22 @@ pub offset_bounds-values-i : goal.offset_bounds-values-i
 offset_bounds-values-i c =
     let a = c.args in
     let cs = columns a.keys.now a.times.now a.values.now [] in
-    omega (arith, within cs a.used a.k a.t _ (c.newest_row-found.ensures cs) _ c.found-1.given.1, c.requires.2)
+    omega (arith, within cs a.used a.k a.t _ (c.in-At.ensures cs) _ refl, c.requires.2)
 
 pub bounds-values-i : goal.bounds-values-i
 bounds-values-i c =
     let a = c.args in
     let cs = columns a.keys.now a.times.now a.values.now [] in
-    omega (arith, within cs a.used a.k a.t _ (c.newest_row-found.ensures cs) _ c.found-1.given.1, c.requires.2)
+    omega (arith, within cs a.used a.k a.t _ (c.in-At.ensures cs) _ refl, c.requires.2)
 
 pub returns-in-At : goal.returns-in-At
-returns-in-At c =
+returns-in-At c marks =
     let a = c.args in
     let cs = columns a.keys.now a.times.now a.values.now marks in
-    value cs a.used a.k a.t _ (c.newest_row-found.ensures cs) _ c.found-1.given.1
+    value cs a.used a.k a.t _ (c.in-At.ensures cs) _ refl
 
 pub returns-in-Nothing : goal.returns-in-Nothing
-returns-in-Nothing c =
+returns-in-Nothing c marks =
     let a = c.args in
     let cs = columns a.keys.now a.times.now a.values.now marks in
-    absent cs a.used a.k a.t _ (c.newest_row-found.ensures cs) c.enum_told-1.given.1
+    absent cs a.used a.k a.t _ (c.in-Nothing.ensures cs) refl

@@ -1,5 +1,5 @@
 -- `map_store::update::is_full` meets its contract: a key that is found has a row, another one needs one. Assumes nothing.
-use mathlib.Core.Path.{◌≡◌, sym, ap, ◌∙◌}
+use mathlib.Core.Path.{◌≡◌, refl, sym, ap, ◌∙◌}
 use mathlib.Core.Bool.{false, not, ◌||◌}
 use Prim.Native.Nat.{ℕ}
 use lib.Dec.{leb, ltb}
@@ -28,7 +28,7 @@ module _ (s : Slot) (w : Rowed s) (k : ℕ) (f : Found) (e : f ≡ key_row s k) 
       (λ l. rw (l, lt-ltb s.count 32 (leb-false 32 s.count l))))
 
 pub returns-in-At : goal.returns-in-At
-returns-in-At c = there c.args.s c.requires c.args.k _ c.find.ensures.0 c.enum_told-1.given.1
+returns-in-At c = there c.args.s c.requires c.args.k _ c.in-At.ensures.value refl
 
 pub returns-in-Nothing : goal.returns-in-Nothing
-returns-in-Nothing c = not_there c.args.s c.requires c.args.k _ c.find.ensures.0 c.enum_told-in-Nothing-1.given.1
+returns-in-Nothing c = not_there c.args.s c.requires c.args.k _ c.in-Nothing.ensures.value refl

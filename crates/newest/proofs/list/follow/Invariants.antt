@@ -1,14 +1,10 @@
 -- `newest::list::follow` meets its contract. The loop's invariant: the cells passed are followed, the others as they were. The measure is how many
 -- are left.
-use mathlib.Core.Path.{◌≡◌, refl, sym, ap, ◌∙◌}
-use mathlib.Core.List.{List, [], ◌∷◌, ◌++◌, append_assoc}
-use Prim.Native.Nat.{ℕ, suc, ◌+◌, ◌-◌, ◌≤◌, ◌<◌}
-use native.Mathlib.Numerals.{add-one}
-use native.Mathlib.Omega.{arith}
-use lib.ListN.{length, take, drop, get_or, set, length-set}
-use lib.Seq.{drop-cons, take-suc, set_at, get_or_at, length-take-le}
+use mathlib.Core.Path.{◌≡◌}
+use mathlib.Core.List.{◌++◌}
+use Prim.Native.Nat.{◌-◌, ◌≤◌}
+use lib.ListN.{length, take, drop}
 use Rattle.newest.specs.Newest.{followed}
-use Rattle.newest.specs.Laws.{length_followed, followed_more}
 use Rattle.newest.proofs.list.follow.Given as goal
 
 abbrev pub invariant-loop-i : goal.invariant-loop-i

@@ -1,27 +1,25 @@
--- `Slots::find` meets its contract. The loop's invariant: the slots that are left, from i on, complete to the answer.
-use mathlib.Core.Logic.{⊎_elim}
-use mathlib.Core.Path.{◌≡◌, ◌∙◌, refl, sym}
-use Prim.Native.Nat.{ℕ, ◌-◌, ◌≤◌}
-use native.Mathlib.Omega.{arith}
-use borrow.Author.Tests.{eq-eqb, ne_eqb}
-use Rattle.slot.specs.Slots.{has_number, first_from, first_slot}
-use Rattle.slot.proofs.Walk.{met_here, other, unoccupied, none}
+-- `Slots::find` meets its contract: what the loop's invariant says of the first slot, and of the next.
+use Rattle.std.proofs.Common.{◌∙◌, refl, sym, arith}
+use borrow.Author.Tests.{ne_eqb}
+use Rattle.slot.specs.Slots.{has_number, first_slot}
+use Rattle.slot.proofs.Walk.{other, unoccupied}
 use Rattle.slot.proofs.Slots.find.Goals as goal
+use Rattle.slot.proofs.Slots.find.Goals.{then-is_occupied+else-s-number, else-is_occupied}
 
+pub loop-i-init : goal.loop-i-init
 unfolding first_slot
-loop-holds c = (omega arith, refl)
-
--- UNREAD loop-holds : tie.Need-loop-init invariant-loop decreases-loop
+loop-i-init c = (omega arith, refl)
 
 pub loop-i-preserved : goal.loop-i-preserved
 loop-i-preserved c =
     let l = c.loop-i in
     let a = c.args in (
       omega arith,
-      ⊎_elim
-          (λ w.
-          let s = w.1.result in
-          other (has_number a.number) a.self l.i _ l.invariant.1 (omega arith) (sym c.is_occupied.ensures ∙ w.0.taken) s w.1.ensures (ne_eqb s.number a.number w.3.left))
-          (λ w. unoccupied (has_number a.number) a.self l.i _ l.invariant.1 (omega arith) (sym c.is_occupied.ensures ∙ w.left))
-          c.if-is_occupied.branch,
+      elim c.if-is_occupied.branch [
+        | then-is_occupied+else-s-number w ↦
+            let s = w.at-s.result in
+            other (has_number a.number) a.self l.i _ l.invariant.1 (omega arith) (sym c.is_occupied.ensures ∙ w.if-is_occupied.true) s w.at-s.ensures
+            (ne_eqb s.number a.number w.if-s-number.false)
+        | else-is_occupied w ↦ unoccupied (has_number a.number) a.self l.i _ l.invariant.1 (omega arith) (sym c.is_occupied.ensures ∙ w.if-is_occupied.false)
+      ],
     )

@@ -1,11 +1,7 @@
 -- `Slots::find` meets its contract. The loop's invariant: the slots that are left, from i on, complete to the answer.
-use mathlib.Core.Logic.{⊎_elim}
-use mathlib.Core.Path.{◌≡◌, ◌∙◌, refl, sym}
-use Prim.Native.Nat.{ℕ, ◌-◌, ◌≤◌}
-use native.Mathlib.Omega.{arith}
-use borrow.Author.Tests.{eq-eqb, ne_eqb}
+use mathlib.Core.Path.{◌≡◌}
+use Prim.Native.Nat.{◌-◌, ◌≤◌}
 use Rattle.slot.specs.Slots.{has_number, first_from, first_slot}
-use Rattle.slot.proofs.Walk.{met_here, other, unoccupied, none}
 use Rattle.slot.proofs.Slots.find.Given as goal
 
 abbrev pub invariant-loop-i : goal.invariant-loop-i

@@ -1,11 +1,7 @@
 -- `Slots::holds` meets its contract. The loop's invariant: the slots that are left, from i on, complete to the answer.
-use mathlib.Core.Logic.{⊎_elim}
-use mathlib.Core.Path.{◌≡◌, ◌∙◌, refl, sym, ap}
+use mathlib.Core.Path.{◌≡◌}
 use Prim.Native.Nat.{◌-◌, ◌≤◌}
-use native.Mathlib.Omega.{arith}
-use borrow.Author.Tests.{lt-ltb, le-ltb}
-use Rattle.slot.specs.Slots.{is_below, is_found, first_from, first_slot}
-use Rattle.slot.proofs.Walk.{met_here, other, unoccupied, none}
+use Rattle.slot.specs.Slots.{is_below, first_from, first_slot}
 use Rattle.slot.proofs.Slots.holds.Given as goal
 
 abbrev pub invariant-loop-i : goal.invariant-loop-i

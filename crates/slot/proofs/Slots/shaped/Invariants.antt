@@ -1,20 +1,10 @@
 -- `Slots::shaped` meets its contract. The loop's invariant: the slots that are left, from i on, complete to
 -- the answer, and the rows of those that were passed are in order.
-use mathlib.Core.Bool.{true, not, false≢true}
-use mathlib.Core.Logic.{⊎_elim}
-use mathlib.Core.Path.{◌≡◌, ◌∙◌, refl, sym, ap}
-use mathlib.Core.List.{List, map}
-use lib.ListN.{length, length-map}
+use mathlib.Core.Bool.{true}
+use mathlib.Core.Path.{◌≡◌}
 use Prim.Native.Nat.{ℕ, ◌-◌, ◌≤◌, ◌<◌}
-use native.Mathlib.Nat.{not-suc-le-zero}
-use native.Mathlib.Omega.{arith}
-use borrow.Author.Count.{below_more}
-use borrow.Author.Tests.{lt-ltb, le-ltb}
-use Rattle.column.specs.declared.Found.{Found}
-use Rattle.slot.specs.Slots.{slot_at, is_occupied, is_overfull, is_found, first_from, first_slot}
-use Rattle.slot.specs.BitLaws.{bit_below}
+use Rattle.slot.specs.Slots.{slot_at, is_occupied, is_overfull, first_from, first_slot}
 use Rattle.slot.specs.Formed.{Rowed}
-use Rattle.slot.proofs.Walk.{met_here, other, unoccupied, none}
 use Rattle.slot.proofs.Slots.shaped.Given as goal
 
 abbrev pub invariant-loop-i : goal.invariant-loop-i

@@ -1,7 +1,5 @@
 -- `versions::conflict::first_late` meets its contract. The loop's invariant: the rows before i are early. The measure is how many rows are left.
 use Prim.Native.Nat.{◌-◌, ◌≤◌}
-use native.Mathlib.Omega.{arith}
-use borrow.Author.Count.{below_more}
 use Rattle.versions.specs.Search.{Early}
 use Rattle.versions.proofs.conflict.first_late.Given as goal
 

@@ -1,15 +1,11 @@
 -- `versions::conflict::has_late` meets its contract, as `has` does.
 -- The measure is how many are left.
-use mathlib.Core.Path.{◌≡◌, refl}
-use mathlib.Core.Bool.{Bool, ◌||◌}
-use mathlib.Core.Logic.{⊎_elim}
-use Prim.Native.Nat.{ℕ, ◌-◌, ◌≤◌}
-use native.Mathlib.Omega.{arith}
-use borrow.Author.Tests.{lt-ltb, le-ltb}
+use mathlib.Core.Path.{◌≡◌}
+use mathlib.Core.Bool.{◌||◌}
+use Prim.Native.Nat.{◌-◌, ◌≤◌}
 use lib.Dec.{ltb}
-use lib.ListN.{length, drop, get_or}
+use lib.ListN.{length, drop}
 use Rattle.versions.specs.Search.{some}
-use Rattle.versions.specs.SearchLaws.{met_here, not_here, all_met}
 use Rattle.versions.proofs.conflict.has_late.Given as goal
 
 abbrev pub invariant-loop-i : goal.invariant-loop-i

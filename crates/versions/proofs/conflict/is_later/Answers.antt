@@ -3,7 +3,7 @@
 use mathlib.Core.Path.{◌≡◌, sym, ◌∙◌}
 use mathlib.Core.Bool.{Bool, false}
 use mathlib.Core.List.{List}
-use Prim.Native.Nat.{ℕ, ◌-◌, ◌≤◌}
+use Prim.Native.Nat.{ℕ}
 use native.Mathlib.Omega.{arith}
 use Rattle.versions.specs.Versions.{columns, versions_of, later}
 use Rattle.versions.specs.Laws.{later_among}
@@ -23,7 +23,7 @@ loop-i-init c =
     (c.requires.0, λ vs. early_none a.k (columns a.keys.now a.times.now vs a.marks.now) a.s a.adds a.from c.requires.4)
 
 pub returns-then-i-used : goal.returns-then-i-used
-returns-then-i-used c =
+returns-then-i-used c values =
     let l = c.loop-i in
     let a = c.args in
     let e : c.pass-i.result ≡ a.used = omega (arith, c.pass-i.ensures.within) in
@@ -41,7 +41,7 @@ is_later_among-requires c =
     )
 
 pub returns-then-is_later_among : goal.returns-then-is_later_among
-returns-then-is_later_among c =
+returns-then-is_later_among c values =
     let a = c.args in
     sym (later_among a.s a.k a.adds c.near-end.result a.used (columns a.keys.now a.times.now values a.marks.now) (omega arith)
     (sym (c.is_later_among.ensures values) ∙ c.if-is_later_among.true))

@@ -1,14 +1,10 @@
 -- `versions::conflict::is_later` meets its contract. The loop's invariant: no version of the first i rows is one of k later than s that meets the transaction.
 -- The measure is how many rows are left.
-use mathlib.Core.Path.{◌≡◌, sym, ◌∙◌}
-use mathlib.Core.Bool.{Bool, false}
+use mathlib.Core.Path.{◌≡◌}
+use mathlib.Core.Bool.{false}
 use mathlib.Core.List.{List}
 use Prim.Native.Nat.{ℕ, ◌-◌, ◌≤◌}
-use native.Mathlib.Omega.{arith}
 use Rattle.versions.specs.Versions.{columns, versions_of, later}
-use Rattle.versions.specs.Laws.{later_among}
-use Rattle.versions.specs.Search.{Passed}
-use Rattle.versions.specs.SearchLaws.{later_passed, early_none}
 use Rattle.versions.proofs.conflict.is_later.Given as goal
 
 abbrev pub invariant-loop-i : goal.invariant-loop-i

@@ -2,9 +2,7 @@
 -- the transaction. The measure is how many rows are left.
 use mathlib.Core.Path.{◌≡◌, sym, ◌∙◌}
 use mathlib.Core.Bool.{Bool, true, false, not, ◌&&◌}
-use mathlib.Core.List.{List}
-use mathlib.Core.Logic.{⊎_elim}
-use Prim.Native.Nat.{ℕ, ◌+◌, ◌-◌, ◌≤◌, ◌<◌}
+use Prim.Native.Nat.{ℕ, ◌+◌, ◌≤◌, ◌<◌}
 use native.Mathlib.Numerals.{add-one}
 use native.Mathlib.Omega.{arith}
 use borrow.Author.Tests.{eq-eqb, ne_eqb, lt-ltb, le-ltb}
@@ -35,7 +33,7 @@ module _ (cs : Columns) (i k s : ℕ) (adds : Bool) where
       excused b m = rw (add-one, eq-eqb (get_or cs.keys i 0) k a, lt-ltb s (get_or cs.times i 0) b, m) inv
 
 pub returns-then-meets : goal.returns-then-meets
-returns-then-meets c =
+returns-then-meets c values =
     let l = c.loop-i in
     let a = c.args in
     hit (columns a.keys.now a.times.now values a.marks.now) l.i a.k a.s a.adds a.to (omega arith) c.if-keys-i.true c.if-times-i.true

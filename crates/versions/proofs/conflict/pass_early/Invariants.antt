@@ -1,9 +1,6 @@
 -- `versions::conflict::pass_early` meets its contract. The loop's invariant: the rows before i are early. The measure is how many rows are left.
-use mathlib.Core.Path.{sym, ◌∙◌}
-use Prim.Native.Nat.{◌+◌, ◌-◌, ◌≤◌}
-use native.Mathlib.Omega.{arith}
+use Prim.Native.Nat.{◌-◌, ◌≤◌}
 use Rattle.versions.specs.Search.{Early}
-use Rattle.versions.specs.SearchLaws.{early_more}
 use Rattle.versions.proofs.conflict.pass_early.Given as goal
 
 abbrev pub invariant-loop-i : goal.invariant-loop-i

@@ -60,28 +60,28 @@ pub offset_bounds-times-j : goal.offset_bounds-times-j
 offset_bounds-times-j c =
     let a = c.args in
     let cs = keyed a.keys.now a.times.now no_columns in
-    omega (arith, within cs a.i a.k a.t a.best (c.requires.2 cs) _ c.best-1.given.1)
+    omega (arith, within cs a.i a.k a.t a.best (c.requires.2 cs) _ c.in-At.is)
 
 pub bounds-times-j : goal.bounds-times-j
 bounds-times-j c =
     let a = c.args in
     let cs = keyed a.keys.now a.times.now no_columns in
-    omega (arith, within cs a.i a.k a.t a.best (c.requires.2 cs) _ c.best-1.given.1)
+    omega (arith, within cs a.i a.k a.t a.best (c.requires.2 cs) _ c.in-At.is)
 
 pub returns-then-times-j : goal.returns-then-times-j
-returns-then-times-j c =
+returns-then-times-j c others =
     let a = c.args in
     let cs = keyed a.keys.now a.times.now others in
-    newer cs a.i a.k a.t a.best (c.requires.2 cs) c.if-keys-i.false c.if-times-i.false _ c.best-1.given.1 c.if-times-j.true
+    newer cs a.i a.k a.t a.best (c.requires.2 cs) c.if-keys-i.false c.if-times-i.false _ c.in-At.is c.if-times-j.true
 
 pub returns-else-times-j : goal.returns-else-times-j
-returns-else-times-j c =
+returns-else-times-j c others =
     let a = c.args in
     let cs = keyed a.keys.now a.times.now others in
-    not_newer cs a.i a.k a.t a.best (c.requires.2 cs) c.if-keys-i.false c.if-times-i.false _ c.best-1.given.1 c.if-times-j.false
+    not_newer cs a.i a.k a.t a.best (c.requires.2 cs) c.if-keys-i.false c.if-times-i.false _ c.in-At.is c.if-times-j.false
 
 pub returns-in-Nothing : goal.returns-in-Nothing
-returns-in-Nothing c =
+returns-in-Nothing c others =
     let a = c.args in
     let cs = keyed a.keys.now a.times.now others in
-    first cs a.i a.k a.t a.best (c.requires.2 cs) c.if-keys-i.false c.if-times-i.false c.enum_told-1.given.1
+    first cs a.i a.k a.t a.best (c.requires.2 cs) c.if-keys-i.false c.if-times-i.false c.in-Nothing.is

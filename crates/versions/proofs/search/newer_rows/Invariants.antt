@@ -2,7 +2,6 @@
 -- The measure is how many rows are left.
 use mathlib.Core.Path.{◌≡◌}
 use Prim.Native.Nat.{◌-◌, ◌≤◌}
-use native.Mathlib.Omega.{arith}
 use Rattle.versions.specs.Versions.{Columns, keyed, versions_of, newest, row_of}
 use Rattle.versions.proofs.search.newer_rows.Given as goal
 

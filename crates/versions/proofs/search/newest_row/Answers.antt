@@ -1,8 +1,8 @@
 -- `versions::search::newest_row` meets its contract. The loop's invariant: best is where the newest version of the first i rows is.
 -- The measure is how many rows are left.
-use mathlib.Core.Path.{◌≡◌, refl, sym, ap, ◌∙◌}
+use mathlib.Core.Path.{◌≡◌, sym, ap, ◌∙◌}
 use mathlib.Core.List.{List}
-use Prim.Native.Nat.{ℕ, ◌-◌, ◌≤◌}
+use Prim.Native.Nat.{ℕ}
 use native.Mathlib.Omega.{arith}
 use Rattle.column.specs.declared.Found.{Found}
 use Rattle.versions.specs.Versions.{Columns, keyed, versions_of, newest, row_of}
@@ -27,7 +27,7 @@ newer_rows-best-requires c =
     )
 
 pub returns : goal.returns
-returns c =
+returns c others =
     let l = c.loop-i in
     let a = c.args in
     let e : c.pass-i.result ≡ a.used = omega (arith, c.pass-i.ensures.within) in
