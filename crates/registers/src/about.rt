@@ -50,8 +50,7 @@ pub struct Numbers {
 }
 
 // The limits.
-#[unsafe(no_mangle)]
-pub extern "C" fn registers_limits() -> Limits
+pub fn registers_limits() -> Limits
     ensures { result ≡ limits }
 {
     Limits {
@@ -67,8 +66,7 @@ pub extern "C" fn registers_limits() -> Limits
 }
 
 // The numbers of the refusals.
-#[unsafe(no_mangle)]
-pub extern "C" fn registers_numbers() -> Numbers
+pub fn registers_numbers() -> Numbers
     ensures { result ≡ numbers }
 {
     Numbers {
@@ -89,16 +87,14 @@ pub extern "C" fn registers_numbers() -> Numbers
 }
 
 // A journal head whose fields hold their places.
-#[unsafe(no_mangle)]
-pub extern "C" fn registers_journal_sample() -> Head
+pub fn registers_journal_sample() -> Head
     ensures { result ≡ journal_sample }
 {
     sample::journal_head()
 }
 
 // A map head whose fields hold their places.
-#[unsafe(no_mangle)]
-pub extern "C" fn registers_map_sample() -> MapHead
+pub fn registers_map_sample() -> MapHead
     ensures { result ≡ map_sample }
 {
     sample::map_head()

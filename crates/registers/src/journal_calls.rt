@@ -38,16 +38,14 @@ fn ended(o: Outcome) -> JournalResult
 }
 
 // The head of an empty store.
-#[unsafe(no_mangle)]
-pub extern "C" fn registers_journal_empty() -> Head
+pub fn registers_journal_empty() -> Head
     ensures { result ≡ empty_head }
 {
     Head::empty()
 }
 
 // Begins a transaction that reads as of a time, and answers its number. Refusals 1, 4, 5, 6, 7, 12.
-#[unsafe(no_mangle)]
-pub extern "C" fn registers_journal_begin(
+pub fn registers_journal_begin(
     h: Head,
     keys: &[u32],
     values: &[u32],
@@ -60,8 +58,7 @@ pub extern "C" fn registers_journal_begin(
 }
 
 // A running transaction gives a key a value. Refusals 1, 2, 3, 8, 12.
-#[unsafe(no_mangle)]
-pub extern "C" fn registers_journal_assign(
+pub fn registers_journal_assign(
     h: Head,
     keys: &[u32],
     values: &[u32],
@@ -77,8 +74,7 @@ pub extern "C" fn registers_journal_assign(
 }
 
 // A running transaction adds to a key. Refusals 1, 2, 3, 8, 12.
-#[unsafe(no_mangle)]
-pub extern "C" fn registers_journal_add(
+pub fn registers_journal_add(
     h: Head,
     keys: &[u32],
     values: &[u32],
@@ -94,8 +90,7 @@ pub extern "C" fn registers_journal_add(
 }
 
 // Ends a running transaction; its updates have no effect. Refusals 1, 2, 12.
-#[unsafe(no_mangle)]
-pub extern "C" fn registers_journal_abort(
+pub fn registers_journal_abort(
     h: Head,
     keys: &[u32],
     values: &[u32],
@@ -108,8 +103,7 @@ pub extern "C" fn registers_journal_abort(
 }
 
 // Commits a running transaction at a time later than last. Refusals 1, 2, 10, 11, 12.
-#[unsafe(no_mangle)]
-pub extern "C" fn registers_journal_commit(
+pub fn registers_journal_commit(
     h: Head,
     keys: &[u32],
     values: &[u32],
@@ -123,8 +117,7 @@ pub extern "C" fn registers_journal_commit(
 }
 
 // The value of a key as a running transaction sees it, or absent. Refusals 1, 2, 3.
-#[unsafe(no_mangle)]
-pub extern "C" fn registers_journal_read(
+pub fn registers_journal_read(
     h: Head,
     keys: &[u32],
     values: &[u32],
@@ -138,8 +131,7 @@ pub extern "C" fn registers_journal_read(
 }
 
 // The committed value of a key at a time, or absent. Refusals 1, 3, 4, 5.
-#[unsafe(no_mangle)]
-pub extern "C" fn registers_journal_lookup(
+pub fn registers_journal_lookup(
     h: Head,
     keys: &[u32],
     values: &[u32],
@@ -153,8 +145,7 @@ pub extern "C" fn registers_journal_lookup(
 }
 
 // The list at a time, into two lent columns, keys and values; answers the count of rows. Refusals 1, 4, 5, 12.
-#[unsafe(no_mangle)]
-pub extern "C" fn registers_journal_list(
+pub fn registers_journal_list(
     h: Head,
     keys: &[u32],
     values: &[u32],
@@ -169,8 +160,7 @@ pub extern "C" fn registers_journal_list(
 }
 
 // The base becomes the list at a time, and the journal keeps what is still needed. Refusals 1, 4, 5, 9, 12.
-#[unsafe(no_mangle)]
-pub extern "C" fn registers_journal_checkpoint(
+pub fn registers_journal_checkpoint(
     h: Head,
     keys: &mut [u32],
     values: &mut [u32],
@@ -183,8 +173,7 @@ pub extern "C" fn registers_journal_checkpoint(
 }
 
 // Takes the bytes that survived a restart for the journal; 13 comes with the place of the first record that fails. Refusals 1, 13.
-#[unsafe(no_mangle)]
-pub extern "C" fn registers_journal_recover(
+pub fn registers_journal_recover(
     h: Head,
     keys: &[u32],
     values: &[u32],

@@ -1,5 +1,5 @@
-// Every call of both stores under a fixed name, for a host in C, C++ or Rust: on plain slices, and on structs of C's layout by value. A call hands
-// its arguments to the store and gives the answer as three numbers; it decides nothing, and asks nothing of its caller.
+// Every call of both stores under a fixed name, for a host: on plain slices, and on structs of C's layout by value. A call hands its arguments to the
+// store and gives the answer as three numbers; it decides nothing, and asks nothing of its caller. `registers_c` gives the calls to C, C++ and Rust.
 // `about` gives a host what it can hold its own figures to.
 #![tactic(auto)]
 

@@ -39,16 +39,14 @@ fn ended(o: Outcome) -> MapResult
 }
 
 // The head of an empty store.
-#[unsafe(no_mangle)]
-pub extern "C" fn registers_map_empty() -> MapHead
+pub fn registers_map_empty() -> MapHead
     ensures { result ≡ empty_head }
 {
     MapHead::empty()
 }
 
 // Begins a transaction that reads as of a time, and answers its number. Refusals 1, 4, 5, 6, 7.
-#[unsafe(no_mangle)]
-pub extern "C" fn registers_map_begin(
+pub fn registers_map_begin(
     h: MapHead,
     keys: &[u32],
     times: &[u64],
@@ -62,8 +60,7 @@ pub extern "C" fn registers_map_begin(
 }
 
 // A running transaction gives a key a value. Refusals 1, 2, 3, 8.
-#[unsafe(no_mangle)]
-pub extern "C" fn registers_map_assign(
+pub fn registers_map_assign(
     h: MapHead,
     keys: &[u32],
     times: &[u64],
@@ -80,8 +77,7 @@ pub extern "C" fn registers_map_assign(
 }
 
 // A running transaction adds to a key. Refusals 1, 2, 3, 8.
-#[unsafe(no_mangle)]
-pub extern "C" fn registers_map_add(
+pub fn registers_map_add(
     h: MapHead,
     keys: &[u32],
     times: &[u64],
@@ -98,8 +94,7 @@ pub extern "C" fn registers_map_add(
 }
 
 // Ends a running transaction; its updates have no effect. Refusals 1, 2.
-#[unsafe(no_mangle)]
-pub extern "C" fn registers_map_abort(
+pub fn registers_map_abort(
     h: MapHead,
     keys: &[u32],
     times: &[u64],
@@ -113,8 +108,7 @@ pub extern "C" fn registers_map_abort(
 }
 
 // Commits a running transaction at a time later than last. Refusals 1, 2, 10, 11, 12.
-#[unsafe(no_mangle)]
-pub extern "C" fn registers_map_commit(
+pub fn registers_map_commit(
     h: MapHead,
     keys: &mut [u32],
     times: &mut [u64],
@@ -129,8 +123,7 @@ pub extern "C" fn registers_map_commit(
 }
 
 // The value of a key as a running transaction sees it, or absent. Refusals 1, 2, 3.
-#[unsafe(no_mangle)]
-pub extern "C" fn registers_map_read(
+pub fn registers_map_read(
     h: MapHead,
     keys: &[u32],
     times: &[u64],
@@ -145,8 +138,7 @@ pub extern "C" fn registers_map_read(
 }
 
 // The committed value of a key at a time, or absent. Refusals 1, 3, 4, 5.
-#[unsafe(no_mangle)]
-pub extern "C" fn registers_map_lookup(
+pub fn registers_map_lookup(
     h: MapHead,
     keys: &[u32],
     times: &[u64],
@@ -161,8 +153,7 @@ pub extern "C" fn registers_map_lookup(
 }
 
 // The list at a time, into two lent columns, keys and values; answers the count of rows. Refusals 1, 4, 5, 12.
-#[unsafe(no_mangle)]
-pub extern "C" fn registers_map_list(
+pub fn registers_map_list(
     h: MapHead,
     keys: &[u32],
     times: &[u64],
@@ -178,8 +169,7 @@ pub extern "C" fn registers_map_list(
 }
 
 // Low becomes a time; kept are the versions after it and, for each key, its newest at or before it. Refusals 1, 4, 5, 9.
-#[unsafe(no_mangle)]
-pub extern "C" fn registers_map_checkpoint(
+pub fn registers_map_checkpoint(
     h: MapHead,
     keys: &mut [u32],
     times: &mut [u64],

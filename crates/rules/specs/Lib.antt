@@ -19,9 +19,6 @@ pub mod Bools
 pub mod Passed
 pub mod Meeting
 pub mod Running
-pub mod Listing
-pub mod KeptLaws
-pub mod RoomLaws
 pub mod Judged
 pub mod BeforeLaws
 pub mod Unique

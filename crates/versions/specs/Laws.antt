@@ -7,7 +7,7 @@ use Rattle.column.specs.declared.Found.TheVariants as found
 use Rattle.rules.specs.declared.Value.TheVariants.{Absent}
 use Rattle.rules.specs.Bools.{split, or_right, or_none_left, or_none_right}
 use Rattle.rules.specs.Lists.{among}
-use Rattle.rules.specs.Listing.{Lists, listed_lists}
+use Rattle.rules.proofs.Listing.{Lists, listed_lists}
 use Rattle.versions.specs.declared.Version.{Version}
 use Rattle.versions.specs.Versions.{Columns, columns, version_at, versions_of, Best, nothing, at, better, newest_step, newest, row_of, value_at, is_marked, later, is_kept, thin, kept_from, keys_of, list_at}
 use Rattle.versions.specs.Columns.{Spans, Long, each, with_version, column, Kept}

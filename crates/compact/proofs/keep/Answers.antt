@@ -2,7 +2,6 @@
 -- that are not passed stand where they stood. Assumes nothing.
 use mathlib.Core.Path.{◌≡◌, refl, ap, sym, ◌∙◌}
 use mathlib.Core.Bool.{Bool, true, false}
-use mathlib.Core.Logic.{⊎_elim}
 use mathlib.Core.List.{List, ◌∷◌, ◌++◌}
 use Prim.Native.Nat.{ℕ, suc, ◌≤◌, ◌-◌, ◌+◌, ◌*◌}
 use native.Mathlib.Numerals.{add-one}
@@ -16,6 +15,7 @@ use Rattle.record.specs.Laid.{drop_more, record_drop, take_appended, drop_append
 use Rattle.compact.specs.Compact.{kept_in, sifted, Moved}
 use native.Mathlib.Omega.{arith}
 use Rattle.compact.proofs.keep.Goals as goal
+use Rattle.compact.proofs.keep.Goals.{then-is_kept, else-is_kept}
 
 module _ (p : Record → Bool) (t : ℕ) (b₀ b b' : List ℕ) (i m m' : ℕ) (y : Moved (sifted p t (records_in i b₀)) b₀ i m b) (s : length b ≡ length b₀)
     (l : i * record_size + record_size ≤ length b₀) (r : Record) (v : Bool) (e : r ≡ record_at b (i * record_size)) (d : v ≡ p r) where
@@ -70,16 +70,15 @@ loop-i-preserved c =
     let y = l.invariant.2 in
     let h : l.i * record_size + record_size ≤ length j = omega (arith, c.requires.0, c.loop-i-test.true) in (
       omega arith,
-      ⊎_elim
-          (λ w. ap length (w.6 ∙ w.3.ensures) ∙ length_appended l.journal l.count _ (omega (arith, y.few, l.invariant.1)) ∙ l.invariant.1)
-          (λ w. ap length w.1 ∙ l.invariant.1)
-          c.if-is_kept.branch,
-      ⊎_elim
-          (λ w.
-          stays p a.t j l.journal _ l.i l.count _ y l.invariant.1 h c.read-r.result _ c.read-r.ensures c.is_kept.ensures
-          _ w.0.taken w.2.ensures (w.6 ∙ w.3.ensures) w.7)
-          (λ w.
-          goes p a.t j l.journal _ l.i l.count _ y l.invariant.1 h c.read-r.result _ c.read-r.ensures c.is_kept.ensures
-          w.0.left w.1 w.2)
-          c.if-is_kept.branch,
+      elim c.if-is_kept.branch [
+        | then-is_kept w ↦ ap length (w.journal-is ∙ w.append.ensures)
+            ∙ length_appended l.journal l.count _ (omega (arith, y.few, l.invariant.1)) ∙ l.invariant.1
+        | else-is_kept w ↦ ap length w.journal-is ∙ l.invariant.1
+      ],
+      elim c.if-is_kept.branch [
+        | then-is_kept w ↦ stays p a.t j l.journal _ l.i l.count _ y l.invariant.1 h c.read-r.result _ c.read-r.ensures c.is_kept.ensures
+            _ w.if-is_kept.true w.raise.ensures (w.journal-is ∙ w.append.ensures) w.count-is
+        | else-is_kept w ↦ goes p a.t j l.journal _ l.i l.count _ y l.invariant.1 h c.read-r.result _ c.read-r.ensures c.is_kept.ensures
+            w.if-is_kept.false w.journal-is w.count-is
+      ],
     )

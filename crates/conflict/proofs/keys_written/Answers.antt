@@ -1,7 +1,6 @@
 -- `conflict::keys_written` meets its contract. The loop's invariant: the column holds the distinct keys of the records passed.
 -- Assumes nothing.
 use mathlib.Core.Path.{◌≡◌, refl}
-use mathlib.Core.Logic.{⊎_elim}
 use Prim.Native.Nat.{◌≤◌, ◌-◌, ◌+◌}
 use lib.ListN.{length, take, length-set}
 use Rattle.rules.specs.Transactions.{of, keys_written}
@@ -13,6 +12,7 @@ use Rattle.journal.specs.GatheredLaws.{gathered_more, gathered_same}
 use Rattle.conflict.specs.KeysLaws.{keys_held, keys_none, keys_more}
 use native.Mathlib.Omega.{arith}
 use Rattle.conflict.proofs.keys_written.Goals as goal
+use Rattle.conflict.proofs.keys_written.Goals.{then-is_new_key, else-is_new_key}
 
 pub loop-i-preserved : goal.loop-i-preserved
 loop-i-preserved c =
@@ -26,15 +26,16 @@ loop-i-preserved c =
     let test = new_key a.n a.adds (take l.count l.keys) r.result in
     let told = keys_held own l.i l.count a.keys.now l.keys l.invariant.2 r.result.key in (
       omega arith,
-      ⊎_elim (λ w. rw w.1 (simp length-set l.invariant.1)) (λ w. rw w.1 l.invariant.1) c.if-is_new_key.branch,
+      elim c.if-is_new_key.branch [
+        | then-is_new_key w ↦ rw w.keys-is (simp length-set l.invariant.1)
+        | else-is_new_key w ↦ rw w.keys-is l.invariant.1
+      ],
       onward (λ ys. Gathered (keys_written (counting a.adds (of a.n ys))) (l.i + 1) c.if-is_new_key.count a.keys.now c.if-is_new_key.keys) j l.i _ r.ensures
           (rw (keys_more a.n a.adds (take l.count l.keys) r.result rs told)
-          (⊎_elim
-          (λ w.
-          gathered_more xs l.i l.count a.keys.now l.keys l.invariant.2 test _ c.is_new_key.ensures r.result.key _ _ (omega arith)
-          w.0.taken w.2 w.1)
-          (λ w.
-          gathered_same xs l.i l.count a.keys.now l.keys l.invariant.2 test _ c.is_new_key.ensures r.result.key _ _
-          w.0.left w.2 w.1)
-          c.if-is_new_key.branch)),
+          (elim c.if-is_new_key.branch [
+            | then-is_new_key w ↦ gathered_more xs l.i l.count a.keys.now l.keys l.invariant.2 test _ c.is_new_key.ensures r.result.key _ _ (omega arith)
+                w.if-is_new_key.true w.count-is w.keys-is
+            | else-is_new_key w ↦ gathered_same xs l.i l.count a.keys.now l.keys l.invariant.2 test _ c.is_new_key.ensures r.result.key _ _
+                w.if-is_new_key.false w.count-is w.keys-is
+          ])),
     )

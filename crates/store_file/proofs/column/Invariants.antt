@@ -7,10 +7,10 @@ use Rattle.store_file.proofs.column.Given as goal
 
 module _ (file : List ℕ) (at rows : ℕ) where
   -- the column as it will be: the rows passed, and what is still to copy
-  abbrev whole : List ℕ → ℕ → List ℕ
+  abbrev pub whole : List ℕ → ℕ → List ℕ
   whole to i = take i to ++ (column_of file (at + i * base_row_bytes) (rows - i) ++ drop rows to)
 
-  turn : (to : List ℕ) (i v : ℕ) → i < rows → rows ≤ length to → v ≡ field_at file (at + i * base_row_bytes) 4 → whole (set to i v) (i + 1) ≡ whole to i
+  pub turn : (to : List ℕ) (i v : ℕ) → i < rows → rows ≤ length to → v ≡ field_at file (at + i * base_row_bytes) 4 → whole (set to i v) (i + 1) ≡ whole to i
   turn to i v l f e =
       let w : rows - i ≡ suc (rows - (i + 1)) = omega arith in
       let s : i + 1 ≡ suc i = omega arith in
@@ -18,7 +18,7 @@ module _ (file : List ℕ) (at rows : ℕ) where
       let n : at + (i + 1) * base_row_bytes ≡ at + i * base_row_bytes + base_row_bytes = omega arith in
       rw (n, w, s, take-suc-set to i v h, drop-set-lt rows to i v l, append_assoc, e)
 
-  finish : (to : List ℕ) (i : ℕ) → i ≡ rows → whole to i ≡ to
+  pub finish : (to : List ℕ) (i : ℕ) → i ≡ rows → whole to i ≡ to
   finish to i e =
       let w : rows - i ≡ 0 = omega arith in
       rw (w, e, take-append-drop)

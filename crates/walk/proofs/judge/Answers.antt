@@ -3,7 +3,6 @@ use mathlib.Core.Path.{◌≡◌, sym, ◌∙◌}
 use mathlib.Core.Bool.{Bool, true, false}
 use mathlib.Core.List.{List}
 use Prim.Native.Nat.{ℕ}
-use borrow.Author.Tests.{not-true, not-false}
 use Rattle.rules.specs.declared.Record.{Record}
 use Rattle.rules.specs.Recovery.{formed, limited, clear, judge}
 use Rattle.record.specs.Bytes.{records_in}
@@ -36,8 +35,8 @@ module _ (low : ℕ) (rs : List Record) (r : Record) (s : State) (h : Tracks low
 pub returns-then-not-numbered : goal.returns-then-not-numbered
 returns-then-not-numbered c =
     let a = c.args in
-    misnumbered a.low (records_in a.i a.journal.now) a.r a.s c.requires.2 _ c.formed.ensures (not-false _ c.if-not-formed.false) _
-    c.numbered.ensures (not-true _ c.if-not-numbered.true)
+    misnumbered a.low (records_in a.i a.journal.now) a.r a.s c.requires.2 _ c.formed.ensures c.if-not-formed.false _
+    c.numbered.ensures c.if-not-numbered.true
 
 pub clear-requires : goal.clear-requires
 clear-requires c =
@@ -46,12 +45,12 @@ clear-requires c =
       c.requires.1,
       c.requires.2.opened,
       past_by a.low (records_in a.i a.journal.now) a.r a.s c.requires.2,
-      commit_runs a.low (records_in a.i a.journal.now) a.r a.s c.requires.2 (sym c.numbered.ensures ∙ not-false _ c.if-not-numbered.false),
+      commit_runs a.low (records_in a.i a.journal.now) a.r a.s c.requires.2 (sym c.numbered.ensures ∙ c.if-not-numbered.false),
     )
 
 pub returns : goal.returns
 returns c =
     let a = c.args in
-    cleared a.low (records_in a.i a.journal.now) a.r a.s c.requires.2 _ c.formed.ensures (not-false _ c.if-not-formed.false) _
-    c.numbered.ensures (not-false _ c.if-not-numbered.false) _ c.timely.ensures (not-false _ c.if-not-timely.false) _ c.limited.ensures
-    (not-false _ c.if-not-limited.false) _ c.clear.ensures
+    cleared a.low (records_in a.i a.journal.now) a.r a.s c.requires.2 _ c.formed.ensures c.if-not-formed.false _
+    c.numbered.ensures c.if-not-numbered.false _ c.timely.ensures c.if-not-timely.false _ c.limited.ensures
+    c.if-not-limited.false _ c.clear.ensures

@@ -4,7 +4,6 @@ use mathlib.Core.Path.{◌≡◌, refl, sym, ap, ◌∙◌}
 use mathlib.Core.Bool.{Bool, true, false}
 use mathlib.Core.List.{List, []}
 use Prim.Native.Nat.{ℕ, ◌+◌, ◌-◌, ◌*◌, ◌≤◌, ◌<◌}
-use borrow.Author.Tests.{not-true, not-false}
 use Rattle.rules.specs.declared.Record.{Record}
 use Rattle.rules.specs.declared.Walked.TheVariants.{Whole, BadAt}
 use Rattle.rules.specs.Kinds.{record_size}
@@ -39,14 +38,14 @@ returns-then-not-judge c =
     let l = c.loop-i in
     let a = c.args in
     stops a.low l.i a.journal.now c.read-r.result _ c.read-r.ensures c.judge.ensures l.invariant.2 a.used (omega arith)
-    (not-true _ c.if-not-judge.true)
+    c.if-not-judge.true
 
 pub loop-i-preserved : goal.loop-i-preserved
 loop-i-preserved c =
     let l = c.loop-i in
     let a = c.args in
     let b = a.journal.now in
-    let t = not-false c.judge.result c.if-not-judge.false in (
+    let t = c.if-not-judge.false in (
       omega arith,
       onward (λ rs. Tracks a.low rs c.step-s.result) b l.i c.read-r.result c.read-r.ensures
           (c.step-s.ensures a.low (records_in l.i b) l.invariant.1 (sym c.judge.ensures ∙ t)),

@@ -1,7 +1,6 @@
 -- `journal::times::late_numbers` meets its contract. The loop's invariant: the column holds the transactions of the late commits passed.
 -- Assumes nothing.
 use mathlib.Core.Path.{◌≡◌, refl}
-use mathlib.Core.Logic.{⊎_elim}
 use Prim.Native.Nat.{◌≤◌, ◌-◌, ◌+◌}
 use lib.ListN.{length, length-set}
 use Rattle.rules.specs.Checkpoints.{late}
@@ -11,6 +10,7 @@ use Rattle.journal.specs.Gathered.{lates, Gathered}
 use Rattle.journal.specs.GatheredLaws.{gathered_none, gathered_more, gathered_same}
 use native.Mathlib.Omega.{arith}
 use Rattle.journal.proofs.times.late_numbers.Goals as goal
+use Rattle.journal.proofs.times.late_numbers.Goals.{then-is_late, else-is_late}
 
 pub loop-i-preserved : goal.loop-i-preserved
 loop-i-preserved c =
@@ -21,14 +21,15 @@ loop-i-preserved c =
     let xs = lates a.s (records_in l.i j) in
     let test = late a.s r.result in (
       omega arith,
-      ⊎_elim (λ w. rw w.1 (simp length-set l.invariant.1)) (λ w. rw w.1 l.invariant.1) c.if-is_late.branch,
+      elim c.if-is_late.branch [
+        | then-is_late w ↦ rw w.numbers-is (simp length-set l.invariant.1)
+        | else-is_late w ↦ rw w.numbers-is l.invariant.1
+      ],
       onward (λ rs. Gathered (lates a.s rs) (l.i + 1) c.if-is_late.count a.numbers.now c.if-is_late.numbers) j l.i _ r.ensures
-          (⊎_elim
-          (λ w.
-          gathered_more xs l.i l.count a.numbers.now l.numbers l.invariant.2 test _ c.is_late.ensures r.result.transaction _ _
-          (omega arith) w.0.taken w.2 w.1)
-          (λ w.
-          gathered_same xs l.i l.count a.numbers.now l.numbers l.invariant.2 test _ c.is_late.ensures r.result.transaction _ _
-          w.0.left w.2 w.1)
-          c.if-is_late.branch),
+          (elim c.if-is_late.branch [
+            | then-is_late w ↦ gathered_more xs l.i l.count a.numbers.now l.numbers l.invariant.2 test _ c.is_late.ensures r.result.transaction _ _
+                (omega arith) w.if-is_late.true w.count-is w.numbers-is
+            | else-is_late w ↦ gathered_same xs l.i l.count a.numbers.now l.numbers l.invariant.2 test _ c.is_late.ensures r.result.transaction _ _
+                w.if-is_late.false w.count-is w.numbers-is
+          ]),
     )

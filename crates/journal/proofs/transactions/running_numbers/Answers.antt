@@ -1,7 +1,6 @@
 -- `journal::transactions::running_numbers` meets its contract. The loop's invariant: the column holds the running transactions that the records
 -- passed begin, and top is one more than the highest number in them. Assumes nothing.
 use mathlib.Core.Path.{◌≡◌, refl}
-use mathlib.Core.Logic.{⊎_elim}
 use Prim.Native.Nat.{ℕ, ◌≤◌, ◌-◌, ◌+◌, max}
 use lib.ListN.{length, length-set}
 use Rattle.rules.specs.declared.Record.{Record}
@@ -13,6 +12,7 @@ use Rattle.journal.specs.Gathered.{Gathered}
 use Rattle.journal.specs.GatheredLaws.{gathered_none, gathered_more, gathered_same}
 use native.Mathlib.Omega.{arith}
 use Rattle.journal.proofs.transactions.running_numbers.Goals as goal
+use Rattle.journal.proofs.transactions.running_numbers.Goals.{then-opens_at, else-opens_at}
 
 pub loop-i-preserved : goal.loop-i-preserved
 loop-i-preserved c =
@@ -24,15 +24,16 @@ loop-i-preserved c =
     let whole = records_in a.used j in
     let test = opens whole r.result rs in (
       omega arith,
-      ⊎_elim (λ w. rw w.1 (simp length-set l.invariant.1)) (λ w. rw w.1 l.invariant.1) c.if-opens_at.branch,
+      elim c.if-opens_at.branch [
+        | then-opens_at w ↦ rw w.numbers-is (simp length-set l.invariant.1)
+        | else-opens_at w ↦ rw w.numbers-is l.invariant.1
+      ],
       turn top (λ (x : Record) (m : ℕ). max m (x.transaction + 1)) (λ x rs. refl) j l.i _ _ _ c.at_least_after-top.ensures r.ensures l.invariant.2,
       onward (λ ys. Gathered (running_in whole ys) (l.i + 1) c.if-opens_at.count a.numbers.now c.if-opens_at.numbers) j l.i _ r.ensures
-          (⊎_elim
-          (λ w.
-          gathered_more (running_in whole rs) l.i l.count a.numbers.now l.numbers l.invariant.3 test _ c.Opens-at.ensures
-          r.result.transaction _ _ (omega (arith, c.requires.1)) w.0.taken w.2 w.1)
-          (λ w.
-          gathered_same (running_in whole rs) l.i l.count a.numbers.now l.numbers l.invariant.3 test _ c.Opens-at.ensures
-          r.result.transaction _ _ w.0.left w.2 w.1)
-          c.if-opens_at.branch),
+          (elim c.if-opens_at.branch [
+            | then-opens_at w ↦ gathered_more (running_in whole rs) l.i l.count a.numbers.now l.numbers l.invariant.3 test _ c.opens_at.ensures
+                r.result.transaction _ _ (omega (arith, c.requires.1)) w.if-opens_at.true w.count-is w.numbers-is
+            | else-opens_at w ↦ gathered_same (running_in whole rs) l.i l.count a.numbers.now l.numbers l.invariant.3 test _ c.opens_at.ensures
+                r.result.transaction _ _ w.if-opens_at.false w.count-is w.numbers-is
+          ]),
     )

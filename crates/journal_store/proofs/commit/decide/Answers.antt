@@ -1,6 +1,5 @@
 -- `journal_store::commit::decide` meets its contract: a law for each way out. Assumes nothing.
 use mathlib.Core.Path.{sym, ◌∙◌}
-use Rattle.rules.specs.Bools.{failed, stood}
 use Rattle.record.specs.Bytes.{records_in}
 use Rattle.record.specs.Laws.{length_records}
 use Rattle.journal.specs.PastLaws.{past_last}
@@ -14,5 +13,5 @@ conflict-requires c =
 
 pub returns : goal.returns
 returns c =
-    commit_room (stood (rw c.follow-trace.ensures at c.runs.ensures) c.if-not-runs.false) c.last-last.ensures c.if-t-last.false
+    commit_room (sym (rw c.follow-trace.ensures at c.runs.ensures) ∙ c.if-not-runs.false) c.last-last.ensures c.if-t-last.false
     (sym (rw c.follow-trace.ensures at c.conflict.ensures) ∙ c.if-conflict.false) (length_records _ _) c.with_room.ensures

@@ -1,5 +1,6 @@
 -- `values::base_value` meets its contract: the row that `column::find` finds is the one that counts. Assumes nothing.
 use mathlib.Core.Path.{◌≡◌, sym, ap, ◌∙◌}
+use Rattle.std.proofs.Common.{rules}
 use mathlib.Core.List.{List}
 use Prim.Native.Nat.{ℕ, ◌<◌}
 use native.Mathlib.Omega.{arith}
@@ -40,22 +41,20 @@ module _ (keys values : List ℕ) (rows k : ℕ) (there : Rows keys values rows)
 pub offset_bounds-values-i : goal.offset_bounds-values-i
 offset_bounds-values-i c =
     let a = c.args in
-    let h : c.found-1.given.0.0 < length a.values.now =
-    in_values a.keys.now a.values.now a.rows a.k c.requires _ c.find-found.ensures _ c.found-1.given.1
-    in
+    let h : c.in-At.i < length a.values.now = in_values a.keys.now a.values.now a.rows a.k c.requires _ c.find-found.ensures _ c.in-At.is in
     search rules
 
 pub bounds-values-i : goal.bounds-values-i
 bounds-values-i c =
     let a = c.args in
-    in_values a.keys.now a.values.now a.rows a.k c.requires _ c.find-found.ensures _ c.found-1.given.1
+    in_values a.keys.now a.values.now a.rows a.k c.requires _ c.find-found.ensures _ c.in-At.is
 
 pub returns-in-At : goal.returns-in-At
 returns-in-At c =
     let a = c.args in
-    at_row a.keys.now a.values.now a.rows a.k c.requires _ c.find-found.ensures _ c.found-1.given.1
+    at_row a.keys.now a.values.now a.rows a.k c.requires _ c.find-found.ensures _ c.in-At.is
 
 pub returns-in-Nothing : goal.returns-in-Nothing
 returns-in-Nothing c =
     let a = c.args in
-    no_row a.keys.now a.values.now a.rows a.k c.requires _ c.find-found.ensures c.enum_told-1.given.1
+    no_row a.keys.now a.values.now a.rows a.k c.requires _ c.find-found.ensures c.in-Nothing.is

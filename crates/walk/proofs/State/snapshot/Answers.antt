@@ -34,19 +34,19 @@ module _ (s : State) (n : ℕ) (f : Found) (e : f ≡ first_row n (take s.count 
 pub offset_bounds-snapshots-j : goal.offset_bounds-snapshots-j
 offset_bounds-snapshots-j c =
     let a = c.args in
-    omega (arith, used a.self a.n _ c.find.ensures _ c.j-1.given.1)
+    omega (arith, used a.self a.n _ c.find.ensures _ c.in-At.is)
 
 pub bounds-snapshots-j : goal.bounds-snapshots-j
 bounds-snapshots-j c =
     let a = c.args in
-    omega (arith, used a.self a.n _ c.find.ensures _ c.j-1.given.1)
+    omega (arith, used a.self a.n _ c.find.ensures _ c.in-At.is)
 
 pub returns-in-At : goal.returns-in-At
 returns-in-At c =
     let a = c.args in
-    there a.self a.n _ c.find.ensures _ c.j-1.given.1
+    there a.self a.n _ c.find.ensures _ c.in-At.is
 
 pub returns-in-Nothing : goal.returns-in-Nothing
 returns-in-Nothing c =
     let a = c.args in
-    nowhere a.self a.n _ c.find.ensures c.enum_told-1.given.1
+    nowhere a.self a.n _ c.find.ensures c.in-Nothing.is

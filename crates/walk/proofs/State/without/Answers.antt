@@ -1,7 +1,6 @@
 -- `walk::State::without` meets its contract. The loop's invariant: the rest has the rows passed, without those of the number.
 -- Assumes nothing.
 use mathlib.Core.Path.{◌≡◌, refl, sym, ap, ◌∙◌}
-use mathlib.Core.Logic.{⊎_elim}
 use mathlib.Core.List.{List, ◌∷◌}
 use Prim.Native.Nat.{ℕ, ◌+◌, ◌-◌, ◌≤◌, ◌<◌}
 use native.Mathlib.Numerals.{add-one}
@@ -13,6 +12,7 @@ use Rattle.walk.specs.Walk.{started, pushed, latest, Without}
 use Rattle.walk.specs.Laws.{push_room, push_rows, push_held}
 use native.Mathlib.Omega.{arith}
 use Rattle.walk.proofs.State.without.Goals as goal
+use Rattle.walk.proofs.State.without.Goals.{then-m-n, else-m-n}
 
 start : (s : State) (n : ℕ) (v : State) → v ≡ started s.last
     → Without s n 0 (record { last = v.last; above = s.above; count = v.count; numbers = v.numbers; snapshots = v.snapshots })
@@ -68,8 +68,8 @@ loop-i-preserved c =
     let a = c.args in
     let k : l.i < 8 = omega arith in (
       omega arith,
-      ⊎_elim
-          (λ w. stays a.t1 l.rest _ a.n l.i l.invariant.1 k w.0.taken (w.2 ∙ w.1.ensures))
-          (λ w. goes a.t1 l.rest _ a.n l.i l.invariant.1 k w.0.left w.1)
-          c.if-m-n.branch,
+      elim c.if-m-n.branch [
+        | then-m-n w ↦ stays a.self l.rest _ a.n l.i l.invariant.1 k w.if-m-n.true (w.rest-is ∙ w.push-rest.ensures)
+        | else-m-n w ↦ goes a.self l.rest _ a.n l.i l.invariant.1 k w.if-m-n.false w.rest-is
+      ],
     )
