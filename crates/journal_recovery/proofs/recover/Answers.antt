@@ -2,7 +2,6 @@
 use mathlib.Core.Path.{◌≡◌, sym, ap, ◌∙◌}
 use mathlib.Core.Bool.{true}
 use Prim.Native.Nat.{◌*◌, ◌≤◌, ◌/◌}
-use borrow.Author.Tests.{not-true, not-false}
 use lib.ListN.{length}
 use Rattle.rules.specs.Recovery.{accepts}
 use Rattle.walk.specs.Judged.{walk_whole}
@@ -15,6 +14,6 @@ use Rattle.journal_recovery.proofs.recover.Goals as goal
 pub keep_done-kept-requires : goal.keep_done-kept-requires
 keep_done-kept-requires c =
     let a = c.args in
-    let z = sym c.shaped.ensures ∙ not-false _ c.if-not-shaped.false in
+    let z = sym c.shaped.ensures ∙ c.if-not-shaped.false in
     let q = recoverable a.h a.keys.now (length a.values.now) (length a.journal.now) a.survived z in
-    (q.few, q.there, q.within, walk_whole a.h.low (surviving a.survived a.journal.now) (sym c.walk-walked.ensures ∙ c.enum_told-1.given.1))
+    (q.few, q.there, q.within, walk_whole a.h.low (surviving a.survived a.journal.now) (sym c.walk-walked.ensures ∙ c.in-Whole.is))
