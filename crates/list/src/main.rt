@@ -8,8 +8,8 @@ ghost use Rattle.list.specs.Ending.{Output, ending_of};
 
 use journal::Journal;
 use journal_store::Head;
-use libc::STDIN_FILENO;
 use rules::Record;
+use std::io::Write;
 use streams::input::Input;
 use streams::{input, output};
 
@@ -55,29 +55,37 @@ fn report_on(journal: &mut [u8], survived: usize, text: &mut [u8]) -> Told
 }
 
 // The text to standard output, and the line that belongs to it.
-fn print(text: &[u8], ending: Ending) {
+fn print<O: Write, E: Write>(out: &mut O, error: &mut E, text: &[u8], ending: Ending) {
     match ending {
-        Ending::Listed => output::print(text, b"listing: listed\n"),
+        Ending::Listed => output::print(out, error, text, b"listing: listed\n"),
         Ending::Empty => output::print(
+            out,
+            error,
             text,
             b"listing: this journal has no record; a store that has taken a checkpoint has its registers in its base\n",
         ),
-        Ending::Refused => output::print(text, b"listing: the store refuses this journal\n"),
+        Ending::Refused => output::print(
+            out,
+            error,
+            text,
+            b"listing: the store refuses this journal\n",
+        ),
     }
 }
 
 // It tries to read one byte more than a journal has at the most, so that a longer input is refused.
-fn main() {
+fn main(rt: HostRuntime) {
+    let mut error = rt.stderr();
     let mut journal = [0u8; Journal::RECORDS * Record::BYTES + 1];
-    let input = input::read_all(STDIN_FILENO, &mut journal);
+    let input = input::read_all(&mut rt.stdin(), &mut journal);
     match input {
-        Input::Failed => output::say(b"listing: the journal could not be read\n"),
+        Input::Failed => output::say(&mut error, b"listing: the journal could not be read\n"),
         Input::Ended(survived) => {
             let mut text = [0u8; report::TEXT];
             let told = report_on(&mut journal, survived, &mut text);
             let count = told.count;
             let ending = told.ending;
-            print(&text[..count], ending);
+            print(&mut rt.stdout(), &mut error, &text[..count], ending);
         }
     }
 }

@@ -8,7 +8,7 @@ ghost use Rattle.list_store.specs.Text.{ReportedFrom, Output, ending_of};
 
 use journal::Base;
 use journal_store::Head;
-use libc::STDIN_FILENO;
+use std::io::Write;
 use store_file::Opened;
 use streams::input::Input;
 use streams::{input, output};
@@ -86,26 +86,37 @@ fn report_on(file: &mut [u8], text: &mut [u8]) -> Told
 }
 
 // The text to standard output, and the line that belongs to it.
-fn print(text: &[u8], ending: Ending) {
+fn print<O: Write, E: Write>(out: &mut O, error: &mut E, text: &[u8], ending: Ending) {
     match ending {
-        Ending::Listed => output::print(text, b"listing: listed\n"),
-        Ending::Refused => output::print(text, b"listing: the store refuses this file\n"),
-        Ending::Broken => output::print(text, b"listing: this file is no whole store\n"),
+        Ending::Listed => output::print(out, error, text, b"listing: listed\n"),
+        Ending::Refused => output::print(
+            out,
+            error,
+            text,
+            b"listing: the store refuses this file\n",
+        ),
+        Ending::Broken => output::print(
+            out,
+            error,
+            text,
+            b"listing: this file is no whole store\n",
+        ),
     }
 }
 
 // It tries to read one byte more than recovery takes, so that a longer input is refused.
-fn main() {
+fn main(rt: HostRuntime) {
+    let mut error = rt.stderr();
     let mut buffer = [0u8; Opened::BYTES + 1];
-    let input = input::read_all(STDIN_FILENO, &mut buffer);
+    let input = input::read_all(&mut rt.stdin(), &mut buffer);
     match input {
-        Input::Failed => output::say(b"listing: the store could not be read\n"),
+        Input::Failed => output::say(&mut error, b"listing: the store could not be read\n"),
         Input::Ended(bytes) => {
             let mut text = [0u8; report::TEXT];
             let told = report_on(&mut buffer[..bytes], &mut text);
             let count = told.count;
             let ending = told.ending;
-            print(&text[..count], ending);
+            print(&mut rt.stdout(), &mut error, &text[..count], ending);
         }
     }
 }

@@ -1,6 +1,5 @@
 -- What the parts of a checkpoint make of the head and the columns. Assumes nothing.
 use Rattle.std.specs.Prelude.{◌≡◌, Bool, cond, ℕ}
-use Rattle.answer.specs.Reply.{accepted}
 use Rattle.versions.specs.Versions.{Columns, versions_of}
 use Rattle.versions.specs.Columns.{thinned}
 use Rattle.map_store.specs.declared.MapHead.{MapHead}

@@ -1,5 +1,5 @@
 -- Where a run of the script stands: what a line says of the lines behind it. Assumes nothing.
-use Rattle.std.specs.Prelude.{ℕ, ◌+◌, ◌*◌, ◌%◌, ◌^◌, Bool, false, cond, not, ◌&&◌, ◌||◌, ltb, ◌==◌, nat_lt}
+use Rattle.std.specs.Prelude.{ℕ, ◌+◌, ◌%◌, ◌^◌, Bool, false, cond, not, ◌&&◌, ◌||◌, ltb, ◌==◌, nat_lt}
 use Rattle.script.specs.declared.line.Call.{Call}
 use Rattle.script.specs.declared.play.Play.{Play}
 use Rattle.script.specs.Line.{spelling, both_word, journal_word, map_word, names_stores}

@@ -7,6 +7,7 @@ use crate::line::Line;
 use crate::play::Play;
 use crate::tally::Tally;
 use answer::shown::Answer;
+use std::io::Write;
 use std::num::wrapping_add_u32;
 
 // Where it stands, the line that was read last, what came of the lines before it, and how many were read.
@@ -57,7 +58,7 @@ impl Run {
     }
 
     // What the line was answered, and a sum of the store's cells after it, are judged.
-    pub fn judged(self, script: &[u8], answer: Answer, sum: u64) -> Self
+    pub fn judged<W: Write>(self, out: &mut W, script: &[u8], answer: Answer, sum: u64) -> Self
         ensures { result ≡ judged_by self answer sum }
     {
         let tally = self.tally;
@@ -66,15 +67,15 @@ impl Run {
         Run {
             play,
             line,
-            tally: tally.judged(script, play, line, answer, sum),
+            tally: tally.judged(out, script, play, line, answer, sum),
             turns: self.turns,
         }
     }
 
     // The run is over.
-    pub fn ended(self) {
+    pub fn ended<W: Write>(self, out: &mut W) {
         let play = self.play;
         let tally = self.tally;
-        tally.ended(play.store);
+        tally.ended(out, play.store);
     }
 }

@@ -6,6 +6,7 @@ use crate::line::Line;
 use crate::play::Play;
 use crate::say;
 use answer::shown::Answer;
+use std::io::Write;
 use std::num::wrapping_add_u64;
 
 // How many lines went as they must, and how many not; and the sum of the store's cells after the last.
@@ -46,8 +47,9 @@ impl Tally {
     }
 
     // A line is as it must be if the answer is the wanted one and a refused call left the cells as they were.
-    pub(crate) fn judged(
+    pub(crate) fn judged<W: Write>(
         self,
+        out: &mut W,
         script: &[u8],
         play: Play,
         line: Line,
@@ -58,14 +60,14 @@ impl Tally {
     {
         let right = is_wanted(answer, line);
         let kept = (answer.number == 0) | (sum == self.sum);
-        say::answered(script, play, line, answer, right);
-        say::kept(script, play, line, kept);
+        say::answered(out, script, play, line, answer, right);
+        say::kept(out, script, play, line, kept);
         self.counted(right & kept, sum)
     }
 
     // The run is over.
-    pub(crate) fn ended(self, store: u32) {
-        say::ended(store, self.right, self.wrong);
+    pub(crate) fn ended<W: Write>(self, out: &mut W, store: u32) {
+        say::ended(out, store, self.right, self.wrong);
     }
 }
 

@@ -7,6 +7,11 @@ use Rattle.streams.specs.declared.moves.Moved.TheVariants as moved
 use Rattle.streams.specs.declared.moves.Step.{Step}
 use Rattle.streams.specs.declared.moves.Step.TheVariants as step
 
+-- what a call that is handed so many bytes may answer: -1, or how many it moved, at most as many
+abbrev pub Answers : ℕ → ℤ → Type 0
+Answers most (pos n) = n ≤ most
+Answers most (negsuc n) = n ≡ 0
+
 -- whether errno is EINTR, 4: a signal came before a byte was moved
 abbrev pub is_interrupted : ℤ → Bool
 is_interrupted (pos e) = eqb e 4

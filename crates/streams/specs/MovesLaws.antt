@@ -4,14 +4,13 @@ use Rattle.std.proofs.Common.{arith, to_z, of_z}
 use Rattle.std.specs.Int.Signed.{mag}
 use Rattle.std.specs.Int.{w64}
 use Rattle.std.proofs.lemmas.Int.{to_z-of_z}
-use Rattle.libc.specs.Io.{Moved as Answers}
 use Rattle.rules.specs.Bools.{split}
 use Rattle.streams.specs.declared.input.Input.{Input}
 use Rattle.streams.specs.declared.input.Input.TheVariants as input
 use Rattle.streams.specs.declared.moves.Moved.{Moved}
 use Rattle.streams.specs.declared.moves.Moved.TheVariants as moved
 use Rattle.streams.specs.declared.moves.Step.TheVariants as step
-use Rattle.streams.specs.Moves.{is_interrupted, moved_by, step_of, Within}
+use Rattle.streams.specs.Moves.{Answers, is_interrupted, moved_by, step_of, Within}
 
 -- for a case that two constructors cannot meet
 never : {P : Type 0} → ◌≡◌ {A = ℕ} 0 1 → P

@@ -2,7 +2,8 @@
 ghost use Rattle.std.specs.Prelude.{length};
 ghost use Rattle.streams.specs.Moves.{Within, Fits};
 
-use crate::moves::{Moved, Step, moved_by, next_step};
+use crate::moves::{Moved, Step, moved_of, next_step};
+use std::io::Read;
 
 // What the input gave: so many bytes until it ended or the buffer was full, or a read that failed.
 #[derive(Clone, Copy)]
@@ -12,21 +13,20 @@ pub enum Input {
 }
 
 // One read into the room that is left.
-fn read_on(fd: i32, room: &mut [u8]) -> Moved
+fn read_on<R: Read>(reader: &mut R, room: &mut [u8]) -> Moved
     ensures { Within result (length room.old) }
 {
-    let answer = libc::read(fd, room);
-    moved_by(answer, os::errno())
+    moved_of(reader.read(room))
 }
 
 // Reads until the input ends or the buffer is full. An interrupted read is tried again.
-pub fn read_all(fd: i32, buffer: &mut [u8]) -> Input
+pub fn read_all<R: Read>(reader: &mut R, buffer: &mut [u8]) -> Input
     ensures { Fits result (length buffer.new) }
 {
     let mut done = 0;
     let mut left = Moved::INTERRUPTIONS;
     while done < buffer.len() {
-        let moved = read_on(fd, &mut buffer[done..]);
+        let moved = read_on(reader, &mut buffer[done..]);
         let step = next_step(moved, done, left);
         match step {
             Step::On(bytes, interruptions) => {

@@ -1,9 +1,11 @@
 // What one call of read or write did, and what follows it. Reading and writing share it.
-ghost use Rattle.std.specs.Prelude.{◌≡◌, ◌-◌, ◌^◌};
+ghost use Rattle.std.specs.Prelude.{◌≡◌, ◌≢◌, ◌↔◌, ◌-◌, ◌^◌, ◌<◌, pos, IfOk, IfErr};
+ghost use Rattle.std.specs.IoError.{error_kind};
 ghost use Rattle.streams.specs.Moves.{moved_by, step_of, Within};
 
 use crate::input::Input;
-use libc::EINTR;
+use std::io;
+use std::io::ErrorKind;
 
 // What one call of read or write did.
 #[derive(Clone, Copy)]
@@ -27,6 +29,11 @@ pub enum Step {
     Stop(Input),
 }
 
+// C's number of an interruption, and of an input or output that failed.
+pub const EINTR: i32 = 4;
+
+const EIO: i32 = 5;
+
 // What C's answer and errno say.
 pub fn moved_by(answer: isize, error: i32) -> Moved
     ensures { result ≡ moved_by answer error }
@@ -41,6 +48,29 @@ pub fn moved_by(answer: isize, error: i32) -> Moved
         return Moved::Interrupted;
     }
     Moved::Failed
+}
+
+// C's errno for a call that failed. Of it only whether the call was interrupted counts, and a reader or writer that is no file tells that too.
+fn error_of(error: &io::Error) -> i32
+    ensures { (result ≡ pos 4) ↔ (error_kind error.now ≡ ErrorKind.Interrupted) }
+{
+    if error.kind() == ErrorKind::Interrupted {
+        return EINTR;
+    }
+    EIO
+}
+
+// What std's answer says, told as C tells it: a count, or -1 and errno.
+pub(crate) fn moved_of(answer: io::Result<usize>) -> Moved
+    requires { IfOk answer (λ n. n < 2 ^ 63) }
+    ensures count { IfOk answer (λ n. result ≡ moved_by (pos n) (pos 0)) }
+    ensures interrupted { IfErr answer (λ e. error_kind e ≡ ErrorKind.Interrupted → result ≡ Moved.Interrupted) }
+    ensures failed { IfErr answer (λ e. error_kind e ≢ ErrorKind.Interrupted → result ≡ Moved.Failed) }
+{
+    match answer {
+        Ok(count) => moved_by(count as isize, 0),
+        Err(error) => moved_by(-1, error_of(&error)),
+    }
 }
 
 // What follows a call, after so many bytes and with so many interruptions left.

@@ -2,26 +2,25 @@
 ghost use Rattle.std.specs.Prelude.{◌≤◌, length};
 ghost use Rattle.streams.specs.Moves.{Within};
 
-use crate::moves::{Moved, Step, moved_by, next_step};
-use libc::{STDERR_FILENO, STDOUT_FILENO};
+use crate::moves::{Moved, Step, moved_of, next_step};
+use std::io::Write;
 
 // One write of what is left.
-fn write_on(fd: i32, rest: &[u8]) -> Moved
+fn write_on<W: Write>(writer: &mut W, rest: &[u8]) -> Moved
     ensures { Within result (length rest.now) }
 {
-    let answer = libc::write(fd, rest);
-    moved_by(answer, os::errno())
+    moved_of(writer.write(rest))
 }
 
 // How many bytes of the text were taken, fewer than all where a write failed. A write that takes a part is followed by one of the rest, and an
 // interrupted one is tried again; one that takes nothing would not take more the next time.
-pub fn write_all(fd: i32, text: &[u8]) -> usize
+pub fn write_all<W: Write>(writer: &mut W, text: &[u8]) -> usize
     ensures { result ≤ length text.now }
 {
     let mut done = 0;
     let mut left = Moved::INTERRUPTIONS;
     while done < text.len() {
-        let moved = write_on(fd, &text[done..]);
+        let moved = write_on(writer, &text[done..]);
         let step = next_step(moved, done, left);
         match step {
             Step::On(bytes, interruptions) => {
@@ -35,15 +34,15 @@ pub fn write_all(fd: i32, text: &[u8]) -> usize
 }
 
 // One line on standard error. Where that fails too, there is nobody to tell.
-pub fn say(line: &[u8]) {
-    write_all(STDERR_FILENO, line);
+pub fn say<E: Write>(error: &mut E, line: &[u8]) {
+    write_all(error, line);
 }
 
 // A text to standard output, and the line that tells how the program ended.
-pub fn print(text: &[u8], line: &[u8]) {
-    if write_all(STDOUT_FILENO, text) < text.len() {
-        say(b"listing: the listing could not be written\n");
+pub fn print<O: Write, E: Write>(output: &mut O, error: &mut E, text: &[u8], line: &[u8]) {
+    if write_all(output, text) < text.len() {
+        say(error, b"listing: the listing could not be written\n");
         return;
     }
-    say(line);
+    say(error, line);
 }

@@ -6,10 +6,12 @@ ghost use Rattle.std.specs.Prelude.{◌≤◌};
 
 use journal::Journal;
 use journal_store::Head;
-use libc::STDIN_FILENO;
 use rules::Record;
 use script::line::Call;
 use script::run::Run;
+use std::io::Write;
+use streams::input;
+use streams::input::Input;
 
 mod calls;
 
@@ -23,7 +25,14 @@ const ROWS: usize = 64;
 const BYTES: usize = Journal::RECORDS * Record::BYTES;
 
 // The script on a journal store.
-fn run(script: &[u8], store: u32, keys: &mut [u32], values: &mut [u32], bytes: &mut [u8]) {
+fn run<W: Write>(
+    out: &mut W,
+    script: &[u8],
+    store: u32,
+    keys: &mut [u32],
+    values: &mut [u32],
+    bytes: &mut [u8],
+) {
     let mut run = Run::new(store);
     let mut head = Head::empty();
     while run.goes(script) {
@@ -31,14 +40,14 @@ fn run(script: &[u8], store: u32, keys: &mut [u32], values: &mut [u32], bytes: &
         if run.play.asks {
             let o = calls::turn(head, keys, values, bytes, run.line.call);
             head = o.head;
-            run = run.judged(script, o.answer, calls::sum(head, keys, values, bytes));
+            run = run.judged(out, script, o.answer, calls::sum(head, keys, values, bytes));
         }
     }
-    run.ended();
+    run.ended(out);
 }
 
 // The script on a journal store, which is lent so many rows and bytes of its own.
-fn lent(script: &[u8], store: u32, rows: usize, count: usize)
+fn lent<W: Write>(out: &mut W, script: &[u8], store: u32, rows: usize, count: usize)
     requires rows_bound { rows ≤ 64 }
     requires count_bound { count ≤ 49152 }
 {
@@ -46,6 +55,7 @@ fn lent(script: &[u8], store: u32, rows: usize, count: usize)
     let mut values = [0u32; ROWS];
     let mut bytes = [0u8; BYTES];
     run(
+        out,
         script,
         store,
         &mut keys[0..rows],
@@ -54,12 +64,17 @@ fn lent(script: &[u8], store: u32, rows: usize, count: usize)
     );
 }
 
-fn main() {
+// A script that cannot be read is run as an empty one.
+fn main(rt: HostRuntime) {
     let mut buffer = [0u8; SCRIPT];
-    let count = io::read_full(STDIN_FILENO, &mut buffer);
+    let count = match input::read_all(&mut rt.stdin(), &mut buffer) {
+        Input::Ended(count) => count,
+        Input::Failed => 0,
+    };
     let script = &buffer[..count];
-    lent(script, Call::JOURNAL, ROWS, 100 * Record::BYTES);
-    lent(script, Call::SINGLE, ROWS, Record::BYTES);
-    lent(script, Call::NARROW, 1, 100 * Record::BYTES);
-    lent(script, Call::LONG, ROWS, BYTES);
+    let mut out = rt.stdout();
+    lent(&mut out, script, Call::JOURNAL, ROWS, 100 * Record::BYTES);
+    lent(&mut out, script, Call::SINGLE, ROWS, Record::BYTES);
+    lent(&mut out, script, Call::NARROW, 1, 100 * Record::BYTES);
+    lent(&mut out, script, Call::LONG, ROWS, BYTES);
 }

@@ -135,10 +135,8 @@ fn slot_sum(sum: u64, s: Slot) -> u64 {
 // The eight slots added to a sum.
 fn slots_sum(sum: u64, slots: Slots) -> u64 {
     let mut s = sum;
-    let mut i = 0;
-    while i < Slots::SLOTS {
+    for i in 0..Slots::SLOTS {
         s = slot_sum(s, slots.at(i));
-        i += 1;
     }
     s
 }

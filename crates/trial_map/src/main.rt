@@ -2,11 +2,13 @@
 // folder; at its top stands what its lines mean.
 #![tactic(auto)]
 
-use libc::STDIN_FILENO;
 use map_store::MapHead;
 use script::line::Call;
 use script::rows;
 use script::run::Run;
+use std::io::Write;
+use streams::input;
+use streams::input::Input;
 
 mod calls;
 
@@ -14,7 +16,7 @@ mod calls;
 const SCRIPT: usize = 32768;
 
 // The script on a map store.
-fn run(script: &[u8]) {
+fn run<W: Write>(out: &mut W, script: &[u8]) {
     let mut keys = [0u32; rows::ROWS];
     let mut times = [0u64; rows::ROWS];
     let mut values = [0u32; rows::ROWS];
@@ -28,14 +30,18 @@ fn run(script: &[u8]) {
             let o = calls::turn(head, &mut keys, &mut times, &mut values, &mut marks, call);
             head = o.head;
             let sum = calls::sum(head, &keys, &times, &values, &marks);
-            run = run.judged(script, o.answer, sum);
+            run = run.judged(out, script, o.answer, sum);
         }
     }
-    run.ended();
+    run.ended(out);
 }
 
-fn main() {
+// A script that cannot be read is run as an empty one.
+fn main(rt: HostRuntime) {
     let mut buffer = [0u8; SCRIPT];
-    let count = io::read_full(STDIN_FILENO, &mut buffer);
-    run(&buffer[..count]);
+    let count = match input::read_all(&mut rt.stdin(), &mut buffer) {
+        Input::Ended(count) => count,
+        Input::Failed => 0,
+    };
+    run(&mut rt.stdout(), &buffer[..count]);
 }

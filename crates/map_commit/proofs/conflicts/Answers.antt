@@ -1,9 +1,8 @@
 -- `map_commit::conflicts` meets its contract: the loop's invariant is that none of the first i rows clashes; the measure is how many rows are left. Assumes nothing.
-use mathlib.Core.Path.{◌≡◌, refl, sym, ◌∙◌}
-use mathlib.Core.Bool.{Bool, true, false}
+use mathlib.Core.Path.{◌≡◌, sym, ◌∙◌}
+use mathlib.Core.Bool.{Bool, true}
 use mathlib.Core.List.{List}
-use mathlib.Core.Logic.{⊎_elim}
-use Prim.Native.Nat.{ℕ, ◌+◌, ◌-◌, ◌≤◌, ◌<◌}
+use Prim.Native.Nat.{ℕ, ◌+◌, ◌<◌}
 use lib.ListN.{get_or}
 use Rattle.rules.specs.declared.Effect.{Effect}
 use Rattle.rules.specs.Effects.{is_add}
@@ -13,15 +12,11 @@ use Rattle.versions.specs.declared.Version.{Version}
 use Rattle.versions.specs.Versions.{columns, versions_of, later}
 use Rattle.map_store.specs.Meaning.{firsts, clash}
 use Rattle.map_commit.specs.Commit.{rows_to, is_first}
-use Rattle.map_commit.specs.RowLaws.{first_same, clash_here, clash_none, clash_among}
+use Rattle.map_commit.specs.RowLaws.{clash_here, clash_among}
 use native.Mathlib.Omega.{arith}
 use Rattle.map_commit.proofs.conflicts.Goals as goal
 
 module _ (s : Slot) (versions : List Version) (i : ℕ) (f : Bool) (g : f ≡ is_first s i) where
-  -- a row whose key has an older one does not count
-  passed : f ≡ false → clash s.snapshot (firsts (rows_to s i)) versions ≡ false → clash s.snapshot (firsts (rows_to s (i + 1))) versions ≡ false
-  passed t h = rw (first_same s i (sym g ∙ t)) h
-
   module _ (first : f ≡ true) (x : Effect) (p : x ≡ effect_at s i) (adds : Bool) (q : adds ≡ is_add x) (b : Bool)
       (e : b ≡ later s.snapshot (get_or s.keys i 0) adds versions) where
     met : later s.snapshot (get_or s.keys i 0) (is_add (effect_at s i)) versions ≡ b
@@ -30,11 +25,8 @@ module _ (s : Slot) (versions : List Version) (i : ℕ) (f : Bool) (g : f ≡ is
     hit : (n : ℕ) → i < n → b ≡ true → true ≡ clash s.snapshot (firsts (rows_to s n)) versions
     hit n l t = sym (clash_among s s.snapshot versions (i + 1) n (omega arith) (clash_here s s.snapshot versions i (sym g ∙ first) (met ∙ t)))
 
-    miss : b ≡ false → clash s.snapshot (firsts (rows_to s i)) versions ≡ false → clash s.snapshot (firsts (rows_to s (i + 1))) versions ≡ false
-    miss t h = clash_none s s.snapshot versions i (sym g ∙ first) (met ∙ t) h
-
 pub returns-then-is_later : goal.returns-then-is_later
-returns-then-is_later c =
+returns-then-is_later c values =
     let a = c.args in
     hit a.s (versions_of a.used (columns a.keys.now a.times.now values a.marks.now)) c.loop-i.i _ c.is_first.ensures c.if-is_first.true
     _ c.effect-e.ensures _ c.adds.ensures _ (c.is_later.ensures values) a.s.count c.loop-i-test.true c.if-is_later.true

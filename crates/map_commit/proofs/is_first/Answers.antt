@@ -1,5 +1,5 @@
 -- `map_commit::is_first` meets its contract: a row is the first with its key exactly if no row before it is found. Assumes nothing.
-use mathlib.Core.Path.{◌≡◌, sym, ◌∙◌}
+use mathlib.Core.Path.{◌≡◌, refl, sym, ◌∙◌}
 use mathlib.Core.Bool.{true, false}
 use Prim.Native.Nat.{ℕ, ◌<◌}
 use lib.ListN.{get_or, take}
@@ -20,7 +20,7 @@ module _ (s : Slot) (w : Rowed s) (i : ℕ) (l : i < s.count) (f : Found) (e : f
   first g = rw (has_before s w i (get_or s.keys i 0) l, sym e ∙ g)
 
 pub returns-in-At : goal.returns-in-At
-returns-in-At c = again c.args.s c.requires.0 c.args.i c.requires.1 _ c.find.ensures _ c.enum_told-1.given.1
+returns-in-At c = again c.args.s c.requires.0 c.args.i c.requires.1 _ c.in-At.ensures _ refl
 
 pub returns-in-Nothing : goal.returns-in-Nothing
-returns-in-Nothing c = first c.args.s c.requires.0 c.args.i c.requires.1 _ c.find.ensures c.enum_told-in-Nothing-1.given.1
+returns-in-Nothing c = first c.args.s c.requires.0 c.args.i c.requires.1 _ c.in-Nothing.ensures refl

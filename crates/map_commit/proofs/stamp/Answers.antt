@@ -1,9 +1,8 @@
 -- `map_commit::stamp` meets its contract: the loop's invariant is that the rows that count among the first i are written; the measure is how many rows are left. Assumes nothing.
-use mathlib.Core.Path.{◌≡◌, refl, sym, ap, ◌∙◌}
+use mathlib.Core.Path.{◌≡◌, sym, ap, ◌∙◌}
 use mathlib.Core.Bool.{Bool, true, false}
 use mathlib.Core.List.{List}
-use mathlib.Core.Logic.{⊎_elim}
-use Prim.Native.Nat.{ℕ, ◌+◌, ◌-◌, ◌≤◌, ◌<◌}
+use Prim.Native.Nat.{ℕ, ◌+◌, ◌≤◌, ◌<◌}
 use lib.ListN.{length}
 use Rattle.rules.specs.declared.Value.{Value}
 use Rattle.slot.specs.declared.Slot.{Slot}
@@ -18,6 +17,7 @@ use Rattle.map_commit.specs.Commit.{rows_to, row_at, is_first, newest_in, Stampe
 use Rattle.map_commit.specs.RowLaws.{first_more, first_same, firsts_among, stamped_more, stamped_used}
 use native.Mathlib.Omega.{arith}
 use Rattle.map_commit.proofs.stamp.Goals as goal
+use Rattle.map_commit.proofs.stamp.Goals.{then-is_first, else-is_first}
 
 -- what was written leaves the lengths
 long : (newest : ℕ → Value) (t used : ℕ) (rows : List Note) (cs cs' : Columns) (r : ℕ) → Stamped newest t used rows cs cs' r → Long cs cs'
@@ -65,19 +65,19 @@ loop-i-preserved c =
     let a = c.args in
     let cs = columns a.keys.now a.times.now a.values.now a.marks.now in
     let l = c.loop-i in
-    ⊎_elim
-    (λ w. (
-      omega arith,
-      omega (arith, l.invariant.1, w.22),
-      rw (w.18, w.19, w.20, w.21, w.22)
-          (more a.s a.last a.t a.used cs l.i _ _ l.invariant.2
-          _ c.is_first.ensures w.0.taken _ (w.4.ensures l.marks) _ w.9.ensures),
-    ))
-    (λ w. (
-      omega arith,
-      omega (arith, l.invariant.1, w.5),
-      rw (w.1, w.2, w.3, w.4, w.5)
-          (same a.s a.last a.t a.used cs l.i _ _ l.invariant.2
-          _ c.is_first.ensures w.0.left),
-    ))
-    c.if-is_first.branch
+    elim c.if-is_first.branch [
+      | then-is_first w ↦ (
+        omega arith,
+        omega (arith, l.invariant.1, w.at-is),
+        rw (w.keys-is, w.times-is, w.values-is, w.marks-is, w.at-is)
+            (more a.s a.last a.t a.used cs l.i _ _ l.invariant.2
+            _ c.is_first.ensures w.if-is_first.true _ (w.version-v.ensures l.marks) _ w.append.ensures),
+      )
+      | else-is_first w ↦ (
+        omega arith,
+        omega (arith, l.invariant.1, w.at-is),
+        rw (w.keys-is, w.times-is, w.values-is, w.marks-is, w.at-is)
+            (same a.s a.last a.t a.used cs l.i _ _ l.invariant.2
+            _ c.is_first.ensures w.if-is_first.false),
+      )
+    ]

@@ -13,8 +13,21 @@ use Rattle.report.specs.Written.{placed, Written}
 use Rattle.report.specs.Laws.{row_bytes_lem, placed_more, length_written}
 use Rattle.report.proofs.rows.Given as goal
 
+module _ (keys values : List ℕ) (count : ℕ) where
+  -- the lines of the rows from i on
+  abbrev pub rest : ℕ → List ℕ
+  rest i = row_lines (first_rows (count - i) (drop i keys) (drop i values))
+
+  -- n is the place behind i lines, and the rest completes the text
+  pub record Going (b₀ : List ℕ) (at : ℕ) (b : List ℕ) (n i : ℕ) : Type 0 where
+    pub few : i ≤ count
+    pub same : length b ≡ length b₀
+    pub room : n + (count - i) * row_bytes ≤ length b
+    pub ends : n + length (rest i) ≡ at + length (row_lines (first_rows count keys values))
+    pub goes : placed b n (rest i) ≡ placed b₀ at (row_lines (first_rows count keys values))
+
 abbrev pub invariant-loop-i : goal.invariant-loop-i
-invariant-loop-i l = Going l.keys l.values l.count l.initial.out l.at l.i next i
+invariant-loop-i l = Going l.keys l.values l.count l.initial.out l.at l.out l.next l.i
 
 abbrev pub decreases-loop-i : goal.decreases-loop-i
-decreases-loop-i l = l.count - i
+decreases-loop-i l = l.count - l.i

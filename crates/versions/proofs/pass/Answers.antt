@@ -1,5 +1,4 @@
 -- `versions::pass` meets its contract. The loop's invariant: the rows before i are passed. The measure is how many rows are left.
-use mathlib.Core.Path.{sym, ◌∙◌}
 use Prim.Native.Nat.{◌+◌}
 use native.Mathlib.Omega.{arith}
 use Rattle.versions.specs.SearchLaws.{passed_more}
@@ -10,4 +9,4 @@ loop-i-preserved c =
     let l = c.loop-i in
     let a = c.args in
     passed_more a.k a.keys.now a.from a.used (l.i + 16) (omega arith) (omega arith) c.requires.1
-    (sym c.has.ensures ∙ c.if-has.false) l.invariant
+    (cc) l.invariant

@@ -1,13 +1,13 @@
 -- `map_checkpoint::keep::clear` meets its contract. The loop's invariant: the rows from `from` up to i are zero. The measure is how many rows are left.
 use mathlib.Core.Path.{◌≡◌}
 use mathlib.Core.List.{List}
-use Prim.Native.Nat.{ℕ, ◌+◌, ◌-◌, ◌≤◌}
+use Prim.Native.Nat.{ℕ, ◌+◌, ◌≤◌}
 use native.Mathlib.Omega.{arith}
 use lib.ListN.{set, take-append-drop}
 use native.Mathlib.Nat.{sub_self}
 use Rattle.versions.specs.Versions.{Columns, columns}
-use Rattle.versions.specs.Columns.{Spans, Long, each, zeroed, cleared}
-use Rattle.versions.specs.Laws.{long_self, lent_fewer, each_same}
+use Rattle.versions.specs.Columns.{Spans, each, zeroed, cleared}
+use Rattle.versions.specs.Laws.{lent_fewer, each_same}
 use Rattle.map_checkpoint.proofs.Cells.{long_set, clear_more}
 use Rattle.map_checkpoint.proofs.keep.clear.Goals as goal
 

@@ -3,17 +3,17 @@
 use mathlib.Core.Path.{◌≡◌, refl, ap, sym, ◌∙◌}
 use mathlib.Core.Bool.{Bool, true, false}
 use mathlib.Core.List.{List, ◌∷◌}
-use mathlib.Core.Logic.{⊎_elim}
-use Prim.Native.Nat.{ℕ, suc, ◌+◌, ◌-◌, ◌≤◌, ◌<◌}
+use Prim.Native.Nat.{ℕ, suc, ◌+◌, ◌≤◌, ◌<◌}
 use native.Mathlib.Numerals.{add-one}
 use native.Mathlib.Omega.{arith}
 use lib.ListN.{length, get_or, set}
 use Rattle.versions.specs.declared.Version.{Version}
 use Rattle.versions.specs.Versions.{Columns, columns, version_at, versions_of}
-use Rattle.versions.specs.Columns.{Spans, Long, each, picked, over, Moved}
-use Rattle.versions.specs.Laws.{length_versions, columns_same, long_self, lent_fewer}
+use Rattle.versions.specs.Columns.{Spans, each, picked, over, Moved}
+use Rattle.versions.specs.Laws.{length_versions, columns_same, lent_fewer}
 use Rattle.map_checkpoint.proofs.Cells.{long_set, over_behind, over_more}
 use Rattle.map_checkpoint.proofs.keep.move_up.Goals as goal
+use Rattle.map_checkpoint.proofs.keep.move_up.Goals.{then-picks-i, else-picks-i}
 
 -- a version's field is written behind the versions that moved up before it
 write : (field : Version → ℕ) (rows : List Version) (cells : List ℕ) (m i : ℕ) (v : Version) → m ≡ length rows → m ≤ i → i < length cells
@@ -51,17 +51,18 @@ loop-i-preserved c =
     let l = c.loop-i in
     let a = c.args in
     let cs = columns a.keys.now a.times.now a.values.now a.marks.now in
-    ⊎_elim
-    (λ w. (
-      omega arith,
-      omega arith,
-      rw (w.5, w.6, w.7, w.8) (long_set l.invariant.2 l.auto (λ cells. get_or cells l.i 0)),
-      moves a.picks.now cs l.i l.invariant.3 w.0.taken l.invariant.0 (lent_fewer c.requires.0 (omega arith)) (columns_same w.5 w.6 w.7 w.8) w.9,
-    ))
-    (λ w. (
-      omega arith,
-      omega arith,
-      rw (w.1, w.2, w.3, w.4) l.invariant.2,
-      passes a.picks.now cs l.i l.invariant.3 w.0.left (columns_same w.1 w.2 w.3 w.4) w.5,
-    ))
-    c.if-picks-i.branch
+    elim c.if-picks-i.branch [
+      | then-picks-i w ↦ (
+        omega arith,
+        omega arith,
+        rw (w.keys-is, w.times-is, w.values-is, w.marks-is) (long_set l.invariant.2 l.kept (λ cells. get_or cells l.i 0)),
+        moves a.picks.now cs l.i l.invariant.3 w.if-picks-i.true l.invariant.0 (lent_fewer c.requires.0 (omega arith))
+            (columns_same w.keys-is w.times-is w.values-is w.marks-is) w.kept-is,
+      )
+      | else-picks-i w ↦ (
+        omega arith,
+        omega arith,
+        rw (w.keys-is, w.times-is, w.values-is, w.marks-is) l.invariant.2,
+        passes a.picks.now cs l.i l.invariant.3 w.if-picks-i.false (columns_same w.keys-is w.times-is w.values-is w.marks-is) w.kept-is,
+      )
+    ]

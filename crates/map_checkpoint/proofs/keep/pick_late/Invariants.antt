@@ -1,14 +1,11 @@
 -- `map_checkpoint::keep::pick_late` meets its contract. The loop's invariant: the first i picks say which rows are late.
 -- The measure is how many rows are left.
-use mathlib.Core.Path.{◌≡◌, refl, ◌∙◌}
+use mathlib.Core.Path.{◌≡◌}
 use mathlib.Core.Bool.{Bool, false}
 use mathlib.Core.List.{List}
-use Prim.Native.Nat.{ℕ, ◌+◌, ◌-◌, ◌≤◌, ◌<◌}
-use native.Mathlib.Omega.{arith}
-use borrow.Author.Count.{below_more}
+use Prim.Native.Nat.{ℕ, ◌-◌, ◌≤◌, ◌<◌}
 use lib.Dec.{ltb}
-use lib.ListN.{length, get_or, set, length-set}
-use lib.Seq.{get_or-set_same, get_or-set_other}
+use lib.ListN.{length, get_or}
 use Rattle.map_checkpoint.proofs.keep.pick_late.Given as goal
 
 -- row j's pick says whether the row is late

@@ -1,16 +1,10 @@
 -- `map_checkpoint::keep::pick_named` meets its contract. The loop's invariant: a row is picked, or named by a cell that is left, exactly if it is to be
 -- picked at the end. The measure is how many cells are left.
-use mathlib.Core.Path.{◌≡◌, refl, sym, ◌∙◌}
-use mathlib.Core.Bool.{Bool, true, false, ◌||◌}
-use mathlib.Core.List.{List, ◌∷◌}
-use Prim.Native.Nat.{ℕ, suc, ◌+◌, ◌-◌, ◌≤◌, ◌<◌}
-use native.Mathlib.Numerals.{add-one}
-use native.Mathlib.Omega.{arith}
-use borrow.Author.Tests.{eqb-true, eqb-false, eq-eqb}
-use lib.Dec.{eqb}
-use lib.ListN.{length, take, drop, get_or, set, length-set}
-use lib.Seq.{drop-cons, drop-length, get_or-take, get_or-set_same, get_or-set_other, length-take-le}
-use Rattle.rules.specs.Bools.{split, or_left, or_right}
+use mathlib.Core.Path.{◌≡◌}
+use mathlib.Core.Bool.{Bool, false, ◌||◌}
+use mathlib.Core.List.{List}
+use Prim.Native.Nat.{ℕ, ◌-◌, ◌≤◌}
+use lib.ListN.{length, take, drop, get_or}
 use Rattle.rules.specs.Lists.{among}
 use Rattle.map_checkpoint.proofs.keep.pick_named.Given as goal
 

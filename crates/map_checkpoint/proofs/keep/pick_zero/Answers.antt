@@ -1,5 +1,5 @@
 -- `map_checkpoint::keep::pick_zero` meets its contract: the row that the search finds is picked, or there is none.
-use mathlib.Core.Path.{◌≡◌, sym, ◌∙◌}
+use mathlib.Core.Path.{◌≡◌, refl, sym, ◌∙◌}
 use mathlib.Core.Bool.{Bool, true, false, ◌||◌}
 use mathlib.Core.List.{List}
 use Prim.Native.Nat.{ℕ, ◌<◌}
@@ -10,9 +10,9 @@ use lib.ListN.{length, get_or, set}
 use lib.Seq.{get_or-set_same, get_or-set_other}
 use Rattle.rules.specs.Bools.{split}
 use Rattle.column.specs.declared.Found.{Found}
-use Rattle.column.specs.declared.Found.TheVariants.{At, Nothing}
+use Rattle.column.specs.declared.Found.TheVariants.{At}
 use Rattle.versions.specs.Versions.{Columns, no_columns, keyed, versions_of, newest, row_of, is_row}
-use Rattle.versions.specs.Laws.{found_version, found_newest, none_found}
+use Rattle.versions.specs.Laws.{found_version, found_newest}
 use Rattle.map_checkpoint.proofs.keep.pick_zero.Goals as goal
 
 module _ (ks ts : List ℕ) (n t : ℕ) (picks : List Bool) (f : Found)
@@ -28,17 +28,13 @@ module _ (ks ts : List ℕ) (n t : ℕ) (picks : List Bool) (f : Found)
       (λ q. rw (q, eqb-true i j q) (get_or-set_same picks j true false l))
       (λ q. rw q (get_or-set_other picks j i true false (eqb-false i j q))))
 
-  none : f ≡ Nothing → (others : Columns) (i : ℕ)
-      → get_or picks i false ≡ (is_row i (newest 0 t (versions_of n (keyed ks ts others))) || get_or picks i false)
-  none e others i = rw (none_found 0 t (keyed ks ts others) n (sym (h others) ∙ e))
-
 pub bounds-picks-j : goal.bounds-picks-j
 bounds-picks-j c =
     let a = c.args in
-    omega (arith, within a.keys.now a.times.now a.used a.t a.picks.now _ c.newest_row-found.ensures _ c.found-1.given.1)
+    omega (arith, within a.keys.now a.times.now a.used a.t a.picks.now _ c.in-At.ensures _ refl)
 
 pub returns-in-At : goal.returns-in-At
 returns-in-At c =
     let a = c.args in
-    let l = within a.keys.now a.times.now a.used a.t a.picks.now _ c.newest_row-found.ensures _ c.found-1.given.1 in
-    found a.keys.now a.times.now a.used a.t a.picks.now _ c.newest_row-found.ensures _ c.found-1.given.1 (omega arith)
+    let l = within a.keys.now a.times.now a.used a.t a.picks.now _ c.in-At.ensures _ refl in
+    found a.keys.now a.times.now a.used a.t a.picks.now _ c.in-At.ensures _ refl (omega arith)

@@ -1,6 +1,5 @@
--- `script::line::read` meets its contract: what is left of the line completes to the answer, and each turn leaves one byte less. Assumes nothing.
-use Rattle.std.proofs.Common.{◌≡◌, ◌-◌, length, ◌∙◌, ⊎_elim, arith, rules}
-use Rattle.script.proofs.Turns.{byte_read, line_ends, script_ends}
+-- What is left of the line completes to the answer, and each turn leaves one byte less.
+use Rattle.std.proofs.Common.{◌≡◌, ◌-◌, length}
 use Rattle.script.specs.Line.{line_at, read_on}
 use Rattle.script.proofs.line.read.Given as goal
 
