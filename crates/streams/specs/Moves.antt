@@ -39,3 +39,10 @@ Within m most = (n : ℕ) → m ≡ moved.Bytes n → (0 < n) × (n ≤ most)
 -- the count of an input that ended lies within the buffer
 abbrev pub Fits : Input → ℕ → Type 0
 Fits i most = (n : ℕ) → i ≡ input.Ended n → n ≤ most
+
+-- how many bytes were moved
+abbrev pub count_of : Moved → ℕ
+count_of (moved.Bytes n) = n
+count_of moved.Nothing = 0
+count_of moved.Interrupted = 0
+count_of moved.Failed = 0

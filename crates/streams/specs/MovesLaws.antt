@@ -9,8 +9,9 @@ use Rattle.streams.specs.declared.input.Input.{Input}
 use Rattle.streams.specs.declared.input.Input.TheVariants as input
 use Rattle.streams.specs.declared.moves.Moved.{Moved}
 use Rattle.streams.specs.declared.moves.Moved.TheVariants as moved
+use Rattle.streams.specs.declared.moves.Step.{Step}
 use Rattle.streams.specs.declared.moves.Step.TheVariants as step
-use Rattle.streams.specs.Moves.{Answers, is_interrupted, moved_by, step_of, Within}
+use Rattle.streams.specs.Moves.{Answers, is_interrupted, moved_by, step_of, Within, count_of}
 
 -- for a case that two constructors cannot meet
 never : {P : Type 0} → ◌≡◌ {A = ℕ} 0 1 → P
@@ -50,3 +51,20 @@ stops moved.Nothing done left e f = cc
 stops moved.Interrupted done zero e f = never (cc)
 stops moved.Interrupted done (suc left) e f = never (cc)
 stops moved.Failed done left e f = never (cc)
+
+-- going on adds the bytes that were moved to those that are done
+pub goes_on_by : (m : Moved) (done left : ℕ) {s : Step} {done' left' : ℕ} → s ≡ step_of m done left → s ≡ step.On done' left' → done' ≡ done + count_of m
+goes_on_by (moved.Bytes n) done left e f = cc
+goes_on_by moved.Nothing done left e f = never (cc)
+goes_on_by moved.Interrupted done zero e f = never (cc)
+goes_on_by moved.Interrupted done (suc left) {done' = done'} e f =
+    let a : done ≡ done' = cc in
+    omega arith
+goes_on_by moved.Failed done left e f = never (cc)
+
+-- the bytes that were moved are within the room
+pub count_within : (m : Moved) {most : ℕ} → Within m most → count_of m ≤ most
+count_within (moved.Bytes n) w = (w n refl).1
+count_within moved.Nothing w = omega arith
+count_within moved.Interrupted w = omega arith
+count_within moved.Failed w = omega arith

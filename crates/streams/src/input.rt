@@ -1,6 +1,7 @@
 // Reading to the end of the input, where a read that failed is never taken for the end.
-ghost use Rattle.std.specs.Prelude.{length};
-ghost use Rattle.streams.specs.Moves.{Within, Fits};
+ghost use Rattle.std.specs.Prelude.{◌≡◌, ◌<◌, ℕ, length, take};
+ghost use Rattle.std.specs.Io.KnownBytes.{Consumes, IsAtEnd};
+ghost use Rattle.streams.specs.Moves.{Within, Fits, count_of};
 
 use crate::moves::{Moved, Step, moved_of, next_step};
 use std::io::Read;
@@ -14,14 +15,18 @@ pub enum Input {
 
 // One read into the room that is left.
 fn read_on<R: Read>(reader: &mut R, room: &mut [u8]) -> Moved
-    ensures { Within result (length room.old) }
+    ensures within { Within result (length room.old) }
+    ensures bytes { Consumes (R.remaining reader.old) (R.remaining reader.new) (take (count_of result) room.new) }
+    ensures end { result ≡ Moved.Nothing → 0 < length room.new → IsAtEnd (R.remaining reader.new) }
 {
     moved_of(reader.read(room))
 }
 
 // Reads until the input ends or the buffer is full. An interrupted read is tried again.
 pub fn read_all<R: Read>(reader: &mut R, buffer: &mut [u8]) -> Input
-    ensures { Fits result (length buffer.new) }
+    ensures within { Fits result (length buffer.new) }
+    ensures bytes { (n : ℕ) → result ≡ Input.Ended n → Consumes (R.remaining reader.old) (R.remaining reader.new) (take n buffer.new) }
+    ensures end { (n : ℕ) → result ≡ Input.Ended n → n < length buffer.new → IsAtEnd (R.remaining reader.new) }
 {
     let mut done = 0;
     let mut left = Moved::INTERRUPTIONS;

@@ -1,13 +1,15 @@
 // Writing a whole text.
-ghost use Rattle.std.specs.Prelude.{◌≤◌, length};
-ghost use Rattle.streams.specs.Moves.{Within};
+ghost use Rattle.std.specs.Prelude.{◌≤◌, length, take};
+ghost use Rattle.std.specs.Io.KnownBytes.{Appends};
+ghost use Rattle.streams.specs.Moves.{Within, count_of};
 
 use crate::moves::{Moved, Step, moved_of, next_step};
 use std::io::Write;
 
 // One write of what is left.
 fn write_on<W: Write>(writer: &mut W, rest: &[u8]) -> Moved
-    ensures { Within result (length rest.now) }
+    ensures within { Within result (length rest.now) }
+    ensures bytes { Appends (W.contents writer.old) (W.contents writer.new) (take (count_of result) rest.now) }
 {
     moved_of(writer.write(rest))
 }
@@ -15,7 +17,8 @@ fn write_on<W: Write>(writer: &mut W, rest: &[u8]) -> Moved
 // How many bytes of the text were taken, fewer than all where a write failed. A write that takes a part is followed by one of the rest, and an
 // interrupted one is tried again; one that takes nothing would not take more the next time.
 pub fn write_all<W: Write>(writer: &mut W, text: &[u8]) -> usize
-    ensures { result ≤ length text.now }
+    ensures within { result ≤ length text.now }
+    ensures bytes { Appends (W.contents writer.old) (W.contents writer.new) (take result text.now) }
 {
     let mut done = 0;
     let mut left = Moved::INTERRUPTIONS;
