@@ -9,6 +9,7 @@ use journal_store::Head;
 use rules::Record;
 use script::line::Call;
 use script::run::Run;
+use std::io;
 use std::io::Write;
 use streams::input;
 use streams::input::Input;
@@ -64,12 +65,12 @@ fn lent<W: Write>(out: &mut W, script: &[u8], store: u32, rows: usize, count: us
     );
 }
 
-// A script that cannot be read is run as an empty one.
-fn main(rt: HostRuntime) {
+// A script that cannot be read is not run.
+fn main(rt: HostRuntime) -> io::Result<()> {
     let mut buffer = [0u8; SCRIPT];
     let count = match input::read_all(&mut rt.stdin(), &mut buffer) {
         Input::Ended(count) => count,
-        Input::Failed => 0,
+        Input::Failed => return Err(io::Error::from(io::ErrorKind::Other)),
     };
     let script = &buffer[..count];
     let mut out = rt.stdout();
@@ -77,4 +78,5 @@ fn main(rt: HostRuntime) {
     lent(&mut out, script, Call::SINGLE, ROWS, Record::BYTES);
     lent(&mut out, script, Call::NARROW, 1, 100 * Record::BYTES);
     lent(&mut out, script, Call::LONG, ROWS, BYTES);
+    Ok(())
 }
