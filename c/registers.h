@@ -16,7 +16,7 @@
  * The library has no lock; the host's lock is held until the new head is in place.
  *
  * Stack. The library allocates nothing; its columns are on the stack. The KB that a call takes on a full store,
- * rounded up, the greater of what the repository's rust/bench/run measures on x86-64 and on Arm:
+ * rounded up, the greater of what the repository's rust/bench/run measured with kit 5b on x86-64 and on Arm:
  *
  *                   begin  assign, add  read  commit  abort  lookup  list  checkpoint  recover
  *   journal store       9            9    19      25      1      19    59          64       13
