@@ -1,6 +1,6 @@
 -- Columns that a pass over the records fills: the running transactions, those that committed later than a time, and the distinct keys that one wrote.
 -- A row more is the next behind those filled, so that a column has the oldest first, and behind them what stood there. Assumes nothing.
-use Rattle.std.specs.Prelude.{◌≡◌, cond, List, [], ◌∷◌, ◌++◌, reverse, ℕ, ◌+◌, ◌≤◌, length, drop}
+use Rattle.std.specs.Prelude.{◌≡◌, cond, List, [], ◌∷◌, ◌++◌, reverse, ℕ, ◌≤◌, length, drop}
 use Rattle.rules.specs.declared.Record.{Record}
 use Rattle.rules.specs.Checkpoints.{late}
 

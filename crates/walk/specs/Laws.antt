@@ -10,7 +10,7 @@ use Rattle.rules.specs.Lists.{among}
 use Rattle.rules.specs.Transactions.{any, of, runs, opens, snapshot, running, without}
 use Rattle.rules.specs.Times.{last, above}
 use Rattle.rules.specs.Running.{running_skip, running_end, running_runs, below}
-use Rattle.rules.specs.Recovery.{numbered, timely, limited, judge}
+use Rattle.rules.specs.Recovery.{numbered, timely, judge}
 use Rattle.journal.specs.Past.{Past}
 use Rattle.journal.specs.PastLaws.{past_last}
 use Rattle.rules.specs.Judged.{judged}

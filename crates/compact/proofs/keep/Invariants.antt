@@ -1,20 +1,10 @@
 -- `compact::keep` meets its contract. The loop's invariant: of the records passed, those that stay stand at the front, and the records
 -- that are not passed stand where they stood. Assumes nothing.
-use mathlib.Core.Path.{◌≡◌, refl, ap, sym, ◌∙◌}
-use mathlib.Core.Bool.{Bool, true, false}
-use mathlib.Core.Logic.{⊎_elim}
-use mathlib.Core.List.{List, ◌∷◌, ◌++◌}
-use Prim.Native.Nat.{ℕ, suc, ◌≤◌, ◌-◌, ◌+◌, ◌*◌}
-use native.Mathlib.Numerals.{add-one}
-use lib.ListN.{length, take, drop}
-use Rattle.rules.specs.declared.Record.{Record}
-use Rattle.rules.specs.Kinds.{record_size}
-use Rattle.rules.specs.Checkpoints.{raise}
-use Rattle.record.specs.Bytes.{record_at, records_in, bytes_of, appended, laid}
-use Rattle.record.specs.Laws.{length_appended}
-use Rattle.record.specs.Laid.{drop_more, record_drop, take_appended, drop_appended}
+use mathlib.Core.Path.{◌≡◌}
+use Prim.Native.Nat.{◌≤◌, ◌-◌}
+use lib.ListN.{length, take}
+use Rattle.record.specs.Bytes.{records_in}
 use Rattle.compact.specs.Compact.{kept_in, sifted, Moved}
-use native.Mathlib.Omega.{arith}
 use Rattle.compact.proofs.keep.Given as goal
 
 abbrev pub invariant-loop-i : goal.invariant-loop-i

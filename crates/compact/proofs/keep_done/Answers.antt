@@ -1,9 +1,7 @@
 -- `compact::keep_done` meets its contract: what the column of the late commits keeps is what recovery keeps. Assumes nothing.
-use mathlib.Core.Path.{refl}
 use Rattle.rules.specs.Recovery.{survivors}
 use Rattle.record.specs.Bytes.{records_in}
 use Rattle.compact.specs.Laws.{survivors_column, moved_up}
-use native.Mathlib.Omega.{arith}
 use Rattle.compact.proofs.keep_done.Goals as goal
 
 pub returns : goal.returns

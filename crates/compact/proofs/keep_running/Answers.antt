@@ -1,5 +1,4 @@
 -- `compact::keep_running` meets its contract: what its two columns keep is what rule 3.9 keeps. Assumes nothing.
-use mathlib.Core.Path.{refl}
 use Prim.Native.Nat.{◌*◌}
 use Rattle.rules.specs.Kinds.{record_size}
 use Rattle.rules.specs.Checkpoints.{kept}

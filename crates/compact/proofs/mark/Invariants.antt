@@ -1,16 +1,8 @@
 -- `compact::mark` meets its contract. The loop's invariant: the numbers passed are marked. Assumes nothing.
-use mathlib.Core.Path.{◌≡◌, refl, sym, ap, ◌∙◌}
-use mathlib.Core.Bool.{Bool, true, false, not}
-use mathlib.Core.Logic.{⊎_elim}
-use mathlib.Core.List.{List, [], ◌∷◌, ◌++◌}
-use Prim.Native.Nat.{ℕ, suc, ◌+◌, ◌-◌, ◌≤◌, ◌<◌}
-use native.Mathlib.Numerals.{add-one}
-use native.Mathlib.Omega.{arith}
-use borrow.Author.Tests.{not-true, not-false}
-use lib.ListN.{length, take, get_or}
-use lib.Seq.{take-suc}
-use Rattle.compact.specs.Marks.{Marks, MarkSet}
-use Rattle.compact.specs.MarksLaws.{no_marks}
+use mathlib.Core.Path.{◌≡◌}
+use Prim.Native.Nat.{◌-◌, ◌≤◌}
+use lib.ListN.{length, take}
+use Rattle.compact.specs.Marks.{Marks}
 use Rattle.compact.proofs.mark.Given as goal
 
 abbrev pub invariant-loop-i : goal.invariant-loop-i

@@ -1,17 +1,13 @@
 -- `compact::zero` meets its contract. The loop's invariant: zeros stand from the first place to where it has come. Assumes nothing.
-use mathlib.Core.Path.{◌≡◌, refl, sym, ap, ◌∙◌}
+use mathlib.Core.Path.{◌≡◌, sym, ap, ◌∙◌}
 use mathlib.Core.List.{List, [], ◌∷◌, ◌++◌, append_assoc}
 use Prim.Native.Nat.{ℕ, suc, ◌+◌, ◌-◌, ◌≤◌, ◌<◌}
-use native.Mathlib.Nat.{sub_self}
 use native.Mathlib.Numerals.{add-one}
-use lib.ListN.{length, take, drop, set, get_or, replicate, length-append, length-replicate, length-set, take-append-drop, replicate-append-replicate}
+use lib.ListN.{length, take, drop, set, get_or, replicate, length-append, length-replicate, length-set, replicate-append-replicate}
 use lib.Seq.{length-take-le, drop-cons, set_at}
 use Rattle.compact.specs.Compact.{zeroed}
 use native.Mathlib.Omega.{arith}
 use Rattle.compact.proofs.zero.Goals as goal
-
-start : (b : List ℕ) (from : ℕ) → b ≡ zeroed b from from
-start b from = rw sub_self (sym (take-append-drop from b))
 
 turn : (b : List ℕ) (from i : ℕ) → from ≤ i → i < length b → set (zeroed b from i) i 0 ≡ zeroed b from (i + 1)
 turn b from i h l =

@@ -1,13 +1,8 @@
 -- `compact::zero` meets its contract. The loop's invariant: zeros stand from the first place to where it has come. Assumes nothing.
-use mathlib.Core.Path.{◌≡◌, refl, sym, ap, ◌∙◌}
-use mathlib.Core.List.{List, [], ◌∷◌, ◌++◌, append_assoc}
-use Prim.Native.Nat.{ℕ, suc, ◌+◌, ◌-◌, ◌≤◌, ◌<◌}
-use native.Mathlib.Nat.{sub_self}
-use native.Mathlib.Numerals.{add-one}
-use lib.ListN.{length, take, drop, set, get_or, replicate, length-append, length-replicate, length-set, take-append-drop, replicate-append-replicate}
-use lib.Seq.{length-take-le, drop-cons, set_at}
+use mathlib.Core.Path.{◌≡◌}
+use Prim.Native.Nat.{◌-◌, ◌≤◌}
+use lib.ListN.{length}
 use Rattle.compact.specs.Compact.{zeroed}
-use native.Mathlib.Omega.{arith}
 use Rattle.compact.proofs.zero.Given as goal
 
 abbrev pub invariant-loop-i : goal.invariant-loop-i

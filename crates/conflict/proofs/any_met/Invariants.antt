@@ -1,13 +1,9 @@
 -- `conflict::any_met` meets its contract. The loop's invariant: whether some record passed is met. Assumes nothing.
 use mathlib.Core.Path.{◌≡◌}
-use mathlib.Core.Logic.{⊎_elim}
 use Prim.Native.Nat.{◌≤◌, ◌-◌}
 use Rattle.rules.specs.Transactions.{any}
 use Rattle.record.specs.Bytes.{records_in}
-use Rattle.record.specs.Walks.{onward, finish}
-use Rattle.journal.specs.WalksLaws.{any_met, any_other}
 use Rattle.conflict.specs.Keys.{met_in}
-use native.Mathlib.Omega.{arith}
 use Rattle.conflict.proofs.any_met.Given as goal
 
 abbrev pub invariant-loop-i : goal.invariant-loop-i

@@ -1,17 +1,12 @@
 -- `conflict::keys_written` meets its contract. The loop's invariant: the column holds the distinct keys of the records passed.
 -- Assumes nothing.
-use mathlib.Core.Path.{◌≡◌, refl}
-use mathlib.Core.Logic.{⊎_elim}
-use Prim.Native.Nat.{◌≤◌, ◌-◌, ◌+◌}
-use lib.ListN.{length, take, length-set}
+use mathlib.Core.Path.{◌≡◌}
+use Prim.Native.Nat.{◌≤◌, ◌-◌}
+use lib.ListN.{length}
 use Rattle.rules.specs.Transactions.{of, keys_written}
 use Rattle.record.specs.Bytes.{records_in}
-use Rattle.record.specs.Walks.{onward}
 use Rattle.journal.specs.Gathered.{Gathered}
-use Rattle.conflict.specs.Keys.{counting, new_key}
-use Rattle.journal.specs.GatheredLaws.{gathered_more, gathered_same}
-use Rattle.conflict.specs.KeysLaws.{keys_held, keys_none, keys_more}
-use native.Mathlib.Omega.{arith}
+use Rattle.conflict.specs.Keys.{counting}
 use Rattle.conflict.proofs.keys_written.Given as goal
 
 abbrev pub invariant-loop-i : goal.invariant-loop-i

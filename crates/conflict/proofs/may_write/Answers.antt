@@ -1,13 +1,12 @@
 -- `conflict::may_write` meets its contract: fewer than 32 keys, or this one among them. Assumes nothing.
 use mathlib.Core.Path.{◌≡◌, sym, ◌∙◌}
-use mathlib.Core.Bool.{Bool, true}
+use mathlib.Core.Bool.{Bool}
 use mathlib.Core.List.{List}
-use Prim.Native.Nat.{ℕ, ◌≤◌, ◌<◌}
-use lib.Dec.{ltb}
-use lib.ListN.{length, take}
-use borrow.Author.Tests.{lt-ltb, le-ltb}
+use Prim.Native.Nat.{ℕ, ◌≤◌}
+use lib.ListN.{take}
+use borrow.Author.Tests.{le-ltb}
 use Rattle.rules.specs.declared.Record.{Record}
-use Rattle.rules.specs.Bools.{or_right, or_false}
+use Rattle.rules.specs.Bools.{or_false}
 use Rattle.rules.specs.Lists.{among}
 use Rattle.rules.specs.Transactions.{of, wrote, keys_written, may_write}
 use Rattle.record.specs.Bytes.{records_in}
@@ -16,9 +15,6 @@ use Rattle.conflict.specs.KeysLaws.{keys_held}
 use Rattle.conflict.proofs.may_write.Goals as goal
 
 module _ (n k used count : ℕ) (rs : List Record) (entry keys : List ℕ) (h : Gathered (keys_written (of n rs)) used count entry keys) where
-  few : count < 32 → true ≡ may_write n k rs
-  few l = sym (or_right (wrote k (of n rs)) (ltb (length (keys_written (of n rs))) 32) (rw h.many at (lt-ltb count 32 l)))
-
   many : 32 ≤ count → (b : Bool) → b ≡ among k (take count keys) → b ≡ may_write n k rs
   many l b e = e ∙ keys_held (of n rs) used count entry keys h k ∙ sym (rw (← h.many, le-ltb count 32 l) (or_false (wrote k (of n rs))))
 

@@ -1,13 +1,12 @@
 -- `journal_checkpoint::settle_by` meets its contract: the list that was made is copied over the base where it fits. Assumes nothing.
 use mathlib.Core.Path.{◌≡◌, refl}
 use mathlib.Core.List.{List, ◌++◌}
-use Prim.Native.Nat.{ℕ, ◌<◌, ◌≤◌, min}
+use Prim.Native.Nat.{ℕ, ◌<◌, ◌≤◌}
 use native.Mathlib.Nat.{min-le_right}
 use native.Mathlib.Omega.{arith}
 use lib.ListN.{length, take, drop}
 use Rattle.rules.specs.Limits.{most_rows}
 use Rattle.rules.specs.Values.{Row}
-use Rattle.rules.specs.Columns.{Filled}
 use Rattle.table.specs.Table.{Next}
 use Rattle.table.specs.Laws.{next_within, next_copied}
 use Rattle.journal_store.specs.Shape.{row_room}

@@ -1,26 +1,22 @@
 -- `journal_list::fill` meets its contract: the list that was made stands in the lent columns, or is copied to them, or does not fit. Assumes nothing.
-use mathlib.Core.Path.{◌≡◌, refl, sym, ap}
-use mathlib.Core.Bool.{Bool, true, false}
+use mathlib.Core.Path.{◌≡◌, refl, sym}
+use mathlib.Core.Bool.{true, false}
 use mathlib.Core.List.{List}
-use Prim.Native.Nat.{ℕ, ◌+◌, ◌<◌, ◌≤◌}
+use Prim.Native.Nat.{ℕ, ◌≤◌}
 use native.Mathlib.Omega.{arith}
 use lib.Dec.{ltb}
 use lib.ListN.{length}
 use Rattle.rules.specs.declared.Value.TheVariants.{Present}
-use Rattle.rules.specs.Values.{Row}
 use Rattle.rules.specs.Columns.{Rows, Filled}
 use Rattle.rules.specs.Calls.{last_of, list_of}
-use Rattle.answer.specs.declared.Refusal.TheVariants.{NoRoom}
-use Rattle.answer.specs.Reply.{refused, accepted}
-use Rattle.values.specs.Pass.{Records}
+use Rattle.answer.specs.Reply.{accepted}
 use Rattle.table.specs.Laws.{next_within, next_filled, next_copied}
-use Rattle.listing.specs.Settled.{Ample}
 use Rattle.journal_store.specs.declared.Head.{Head}
 use Rattle.journal_store.specs.Shape.{meaning, Shaped}
 use Rattle.journal_store.specs.CallContracts.{is_list_shaped, ListedBy}
 use Rattle.journal_store.specs.ShapeLaws.{list_shape, list_paired}
-use Rattle.journal_store.specs.Tests.{list_room, list_rows}
-use Rattle.journal_store.specs.Laws.{list_filled, list_refused}
+use Rattle.journal_store.specs.Tests.{list_rows}
+use Rattle.journal_store.specs.Laws.{list_filled}
 use Rattle.journal_list.proofs.fill.Goals as goal
 
 module _ (h : Head) (keys values j : List ℕ) (t : ℕ) (listed contents : List ℕ)
@@ -35,9 +31,6 @@ module _ (h : Head) (keys values j : List ℕ) (t : ℕ) (listed contents : List
   base : Rows keys values h.base.rows
   base = record { in_keys = good.rows; in_values = rw (← good.paired) good.rows }
 
-  records : Records j h.journal.used
-  records = record { few = good.used_limit; there = good.used }
-
   module _ (low : h.low ≤ t) (past : ltb (last_of (meaning h keys values j)) t ≡ false) (n : ℕ)
       (count : n ≡ length (list_of t (meaning h keys values j))) where
     made : (listed' contents' : List ℕ) → n ≤ length listed → Filled (list_of t (meaning h keys values j)) listed contents listed' contents'
@@ -45,11 +38,6 @@ module _ (h : Head) (keys values j : List ℕ) (t : ℕ) (listed contents : List
     made listed' contents' l f =
         list_filled h keys values j t listed contents e (accepted (Present n))
         (list_rows (length listed) t (meaning h keys values j) low false (sym past) refl n count l) listed' contents' refl f
-
-    full : length listed < n → ListedBy h keys values j t listed contents (refused NoRoom) listed contents
-    full l =
-        list_refused h keys values j t listed contents e (refused NoRoom)
-        (list_room (length listed) t (meaning h keys values j) low false (sym past) refl n count l) refl
 
 pub returns-then-rows-used : goal.returns-then-rows-used
 returns-then-rows-used c =

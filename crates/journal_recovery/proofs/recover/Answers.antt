@@ -1,14 +1,9 @@
 -- `journal_recovery::recover` meets its contract: the shape test, the walk, and where it accepts the records that stay. Assumes nothing.
-use mathlib.Core.Path.{◌≡◌, sym, ap, ◌∙◌}
-use mathlib.Core.Bool.{true}
-use Prim.Native.Nat.{◌*◌, ◌≤◌, ◌/◌}
+use mathlib.Core.Path.{sym, ◌∙◌}
 use lib.ListN.{length}
-use Rattle.rules.specs.Recovery.{accepts}
 use Rattle.walk.specs.Judged.{walk_whole}
 use Rattle.journal_store.specs.CallContracts.{surviving}
 use Rattle.journal_store.specs.ShapeLaws.{recoverable}
-use Rattle.journal_store.specs.Laws.{recover_bad, recover_refused, recover_done}
-use native.Mathlib.Omega.{arith}
 use Rattle.journal_recovery.proofs.recover.Goals as goal
 
 pub keep_done-kept-requires : goal.keep_done-kept-requires

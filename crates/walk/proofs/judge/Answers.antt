@@ -12,22 +12,12 @@ use Rattle.walk.specs.Laws.{numbered_by_lem, timely_by_lem, past_by, commit_runs
 use Rattle.walk.proofs.judge.Goals as goal
 
 module _ (low : ℕ) (rs : List Record) (r : Record) (s : State) (h : Tracks low rs s) (f : Bool) (fe : f ≡ formed r) where
-  misformed : f ≡ false → false ≡ judge low rs r
-  misformed q = rw (sym fe ∙ q)
-
   module _ (ft : f ≡ true) (n : Bool) (ne : n ≡ numbered_by s r) where
     misnumbered : n ≡ false → false ≡ judge low rs r
     misnumbered q = rw (sym fe ∙ ft, sym (numbered_by_lem low rs r s h) ∙ sym ne ∙ q)
 
     module _ (nt : n ≡ true) (t : Bool) (te : t ≡ timely_by low s r) where
-      untimely : t ≡ false → false ≡ judge low rs r
-      untimely q = rw (sym fe ∙ ft, sym (numbered_by_lem low rs r s h) ∙ sym ne ∙ nt, sym (timely_by_lem low rs r s h) ∙ sym te ∙ q)
-
       module _ (tt : t ≡ true) (l : Bool) (le : l ≡ limited rs r) where
-        unlimited : l ≡ false → false ≡ judge low rs r
-        unlimited q =
-            rw (sym fe ∙ ft, sym (numbered_by_lem low rs r s h) ∙ sym ne ∙ nt, sym (timely_by_lem low rs r s h) ∙ sym te ∙ tt, sym le ∙ q)
-
         cleared : l ≡ true → (b : Bool) → b ≡ clear rs r → b ≡ judge low rs r
         cleared q b e =
             rw (sym fe ∙ ft, sym (numbered_by_lem low rs r s h) ∙ sym ne ∙ nt, sym (timely_by_lem low rs r s h) ∙ sym te ∙ tt, sym le ∙ q) e

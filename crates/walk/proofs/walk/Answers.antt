@@ -1,9 +1,9 @@
 -- `walk::walk` meets its contract. The loop's invariant: the state is that of the records passed, and all of them are accepted.
 -- Assumes nothing.
-use mathlib.Core.Path.{◌≡◌, refl, sym, ap, ◌∙◌}
+use mathlib.Core.Path.{◌≡◌, sym, ap, ◌∙◌}
 use mathlib.Core.Bool.{Bool, true, false}
-use mathlib.Core.List.{List, []}
-use Prim.Native.Nat.{ℕ, ◌+◌, ◌-◌, ◌*◌, ◌≤◌, ◌<◌}
+use mathlib.Core.List.{List}
+use Prim.Native.Nat.{ℕ, ◌+◌, ◌*◌, ◌<◌}
 use Rattle.rules.specs.declared.Record.{Record}
 use Rattle.rules.specs.declared.Walked.TheVariants.{Whole, BadAt}
 use Rattle.rules.specs.Kinds.{record_size}
@@ -11,15 +11,10 @@ use Rattle.rules.specs.Recovery.{judge, walk}
 use Rattle.record.specs.Bytes.{record_at, records_in}
 use Rattle.record.specs.Laws.{length_records}
 use Rattle.record.specs.Walks.{onward}
-use Rattle.walk.specs.declared.State.{State}
-use Rattle.walk.specs.Walk.{started, Tracks}
+use Rattle.walk.specs.Walk.{Tracks}
 use Rattle.walk.specs.Judged.{walk_more, walk_bad, walk_stays}
-use Rattle.walk.specs.Laws.{started_tracks, begin_room}
 use native.Mathlib.Omega.{arith}
 use Rattle.walk.proofs.walk.Goals as goal
-
-start : (low : ℕ) (s : State) → s ≡ started low → Tracks low [] s
-start low s e = rw e (started_tracks low)
 
 module _ (low i : ℕ) (b : List ℕ) (r : Record) (v : Bool) (e : r ≡ record_at b (i * record_size)) (d : v ≡ judge low (records_in i b) r)
     (w : walk low (records_in i b) ≡ Whole) where

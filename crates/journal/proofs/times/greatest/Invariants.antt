@@ -1,10 +1,8 @@
 -- `journal::times::greatest` meets its contract. The loop's invariant: best is last of the records passed. Assumes nothing.
-use mathlib.Core.Path.{◌≡◌, refl}
+use mathlib.Core.Path.{◌≡◌}
 use Prim.Native.Nat.{◌≤◌, ◌-◌}
-use native.Mathlib.Omega.{arith}
-use Rattle.rules.specs.Times.{last, last_step}
+use Rattle.rules.specs.Times.{last}
 use Rattle.record.specs.Bytes.{records_in}
-use Rattle.record.specs.Walks.{turn, finish}
 use Rattle.journal.proofs.times.greatest.Given as goal
 
 abbrev pub invariant-loop-i : goal.invariant-loop-i

@@ -1,6 +1,6 @@
 -- `journal::times::is_future` meets its contract. The loop's invariant: the time lies above last exactly if it lies above last of the records that are
 -- left. Assumes nothing.
-use mathlib.Core.Path.{◌≡◌, refl, sym, ap, ◌∙◌}
+use mathlib.Core.Path.{◌≡◌, sym, ap, ◌∙◌}
 use mathlib.Core.Bool.{Bool, true, false, ◌&&◌}
 use mathlib.Core.List.{List}
 use Prim.Native.Nat.{ℕ, suc, ◌-◌, ◌*◌, ◌≤◌, max}

@@ -1,17 +1,10 @@
 -- `journal::times::is_future` meets its contract. The loop's invariant: the time lies above last exactly if it lies above last of the records that are
 -- left. Assumes nothing.
-use mathlib.Core.Path.{◌≡◌, refl, sym, ap, ◌∙◌}
-use mathlib.Core.Bool.{Bool, true, false, ◌&&◌}
-use mathlib.Core.List.{List}
-use Prim.Native.Nat.{ℕ, suc, ◌-◌, ◌*◌, ◌≤◌, max}
-use lib.Dec.{leb, ltb}
-use borrow.Author.Tests.{leb-true, leb-false, ltb-true, ltb-false, lt-ltb, le-ltb}
-use Rattle.rules.specs.declared.Record.{Record}
-use Rattle.rules.specs.Bools.{split, and_left, and_right}
-use Rattle.rules.specs.Kinds.{record_size, is_commit}
-use Rattle.rules.specs.Times.{last, last_step}
-use Rattle.record.specs.Bytes.{records_in, record_at}
-use native.Mathlib.Omega.{arith}
+use mathlib.Core.Path.{◌≡◌}
+use Prim.Native.Nat.{◌≤◌}
+use lib.Dec.{ltb}
+use Rattle.rules.specs.Times.{last}
+use Rattle.record.specs.Bytes.{records_in}
 use Rattle.journal.proofs.times.is_future.Given as goal
 
 abbrev pub invariant-loop-i : goal.invariant-loop-i

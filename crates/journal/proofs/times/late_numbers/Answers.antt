@@ -1,13 +1,12 @@
 -- `journal::times::late_numbers` meets its contract. The loop's invariant: the column holds the transactions of the late commits passed.
 -- Assumes nothing.
-use mathlib.Core.Path.{◌≡◌, refl}
-use Prim.Native.Nat.{◌≤◌, ◌-◌, ◌+◌}
-use lib.ListN.{length, length-set}
+use Prim.Native.Nat.{◌+◌}
+use lib.ListN.{length-set}
 use Rattle.rules.specs.Checkpoints.{late}
 use Rattle.record.specs.Bytes.{records_in}
 use Rattle.record.specs.Walks.{onward}
 use Rattle.journal.specs.Gathered.{lates, Gathered}
-use Rattle.journal.specs.GatheredLaws.{gathered_none, gathered_more, gathered_same}
+use Rattle.journal.specs.GatheredLaws.{gathered_more, gathered_same}
 use native.Mathlib.Omega.{arith}
 use Rattle.journal.proofs.times.late_numbers.Goals as goal
 use Rattle.journal.proofs.times.late_numbers.Goals.{then-is_late, else-is_late}

@@ -1,15 +1,10 @@
 -- `journal::times::late_numbers` meets its contract. The loop's invariant: the column holds the transactions of the late commits passed.
 -- Assumes nothing.
-use mathlib.Core.Path.{◌≡◌, refl}
-use mathlib.Core.Logic.{⊎_elim}
-use Prim.Native.Nat.{◌≤◌, ◌-◌, ◌+◌}
-use lib.ListN.{length, length-set}
-use Rattle.rules.specs.Checkpoints.{late}
+use mathlib.Core.Path.{◌≡◌}
+use Prim.Native.Nat.{◌≤◌, ◌-◌}
+use lib.ListN.{length}
 use Rattle.record.specs.Bytes.{records_in}
-use Rattle.record.specs.Walks.{onward}
 use Rattle.journal.specs.Gathered.{lates, Gathered}
-use Rattle.journal.specs.GatheredLaws.{gathered_none, gathered_more, gathered_same}
-use native.Mathlib.Omega.{arith}
 use Rattle.journal.proofs.times.late_numbers.Given as goal
 
 abbrev pub invariant-loop-i : goal.invariant-loop-i

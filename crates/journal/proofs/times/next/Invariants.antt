@@ -1,12 +1,9 @@
 -- `journal::times::next` meets its contract. The loop's invariant: best is one more than the highest number begun in the records passed, at least
 -- floor; it is capped after the loop. Assumes nothing.
-use mathlib.Core.Path.{◌≡◌, refl, sym}
+use mathlib.Core.Path.{◌≡◌}
 use Prim.Native.Nat.{◌≤◌, ◌-◌}
-use native.Mathlib.Omega.{arith}
-use native.Mathlib.Nat.{min-eq_left, min-eq_right}
-use Rattle.rules.specs.Times.{above, above_step}
+use Rattle.rules.specs.Times.{above}
 use Rattle.record.specs.Bytes.{records_in}
-use Rattle.record.specs.Walks.{turn, finish}
 use Rattle.journal.proofs.times.next.Given as goal
 
 abbrev pub invariant-loop-i : goal.invariant-loop-i

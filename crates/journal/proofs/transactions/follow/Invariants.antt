@@ -1,12 +1,9 @@
 -- `journal::transactions::follow` meets its contract. The loop's invariant: the trace is that of the transaction's records passed. Assumes nothing.
 use mathlib.Core.Path.{◌≡◌}
 use Prim.Native.Nat.{◌≤◌, ◌-◌}
-use native.Mathlib.Omega.{arith}
 use Rattle.rules.specs.Transactions.{of}
 use Rattle.record.specs.Bytes.{records_in}
-use Rattle.record.specs.Walks.{turn, finish}
-use Rattle.journal.specs.Walks.{traced, trace_of}
-use Rattle.journal.specs.WalksLaws.{trace_more}
+use Rattle.journal.specs.Walks.{trace_of}
 use Rattle.journal.proofs.transactions.follow.Given as goal
 
 abbrev pub invariant-loop-i : goal.invariant-loop-i

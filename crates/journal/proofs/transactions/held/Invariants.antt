@@ -1,13 +1,9 @@
 -- `journal::transactions::held` meets its contract. The loop's invariant: whether some record passed holds the time. Assumes nothing.
 use mathlib.Core.Path.{◌≡◌}
-use mathlib.Core.Logic.{⊎_elim}
 use Prim.Native.Nat.{◌≤◌, ◌-◌}
 use Rattle.rules.specs.Transactions.{any}
 use Rattle.rules.specs.Checkpoints.{held_by}
 use Rattle.record.specs.Bytes.{records_in}
-use Rattle.record.specs.Walks.{onward, finish}
-use Rattle.journal.specs.WalksLaws.{any_met, any_other}
-use native.Mathlib.Omega.{arith}
 use Rattle.journal.proofs.transactions.held.Given as goal
 
 abbrev pub invariant-loop-i : goal.invariant-loop-i

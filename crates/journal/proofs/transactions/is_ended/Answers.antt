@@ -1,11 +1,10 @@
 -- `journal::transactions::is_ended` meets its contract. The loop's invariant: an end stands from the first place on exactly if one stands among the
 -- records that are left. Assumes nothing.
-use mathlib.Core.Path.{◌≡◌, refl, sym, ap, ◌∙◌}
-use mathlib.Core.Bool.{Bool, true, false, ◌||◌}
+use mathlib.Core.Path.{◌≡◌, sym, ap, ◌∙◌}
+use mathlib.Core.Bool.{Bool, false, ◌||◌}
 use mathlib.Core.List.{List}
-use Prim.Native.Nat.{ℕ, suc, ◌+◌, ◌-◌, ◌*◌, ◌≤◌, ◌<◌}
+use Prim.Native.Nat.{ℕ, suc, ◌+◌, ◌-◌, ◌*◌, ◌<◌}
 use Rattle.rules.specs.declared.Record.{Record}
-use Rattle.rules.specs.Bools.{or_left}
 use Rattle.rules.specs.Kinds.{record_size}
 use Rattle.record.specs.Bytes.{record_at}
 use Rattle.journal.specs.Ends.{ends, ended_from}
@@ -16,9 +15,6 @@ use Rattle.journal.proofs.transactions.is_ended.Goals as goal
 module _ (n : ℕ) (b : List ℕ) (i to : ℕ) (r : Record) (met : Bool) (e : r ≡ record_at b (i * record_size)) (d : met ≡ ends n r) (l : i < to) where
   split_off : ended_from n b i (to - i) ≡ (met || ended_from n b (i + 1) (to - (i + 1)))
   split_off = let w : to - i ≡ suc (to - (i + 1)) = omega arith in rw (w, d, e)
-
-  found : met ≡ true → ended_from n b i (to - i) ≡ true
-  found t = split_off ∙ or_left met (ended_from n b (i + 1) (to - (i + 1))) t
 
   passed : met ≡ false → ended_from n b i (to - i) ≡ ended_from n b (i + 1) (to - (i + 1))
   passed f = split_off ∙ ap (λ (x : Bool). x || ended_from n b (i + 1) (to - (i + 1))) f

@@ -1,31 +1,19 @@
 -- `journal::transactions::is_held` meets its contract: a begin whose transaction runs from a snapshot below the time. Assumes nothing.
-use mathlib.Core.Path.{◌≡◌, refl, sym, ap, ◌∙◌}
-use mathlib.Core.Bool.{Bool, true, false, not, ◌&&◌}
+use mathlib.Core.Path.{◌≡◌}
+use mathlib.Core.Bool.{true, false}
 use mathlib.Core.List.{List}
 use Prim.Native.Nat.{ℕ}
-use lib.Dec.{ltb}
-use borrow.Author.Tests.{eq-eqb, ne_eqb, not-true, not-false}
 use Rattle.rules.specs.declared.Record.{Record}
 use Rattle.rules.specs.Bools.{and_false}
 use Rattle.rules.specs.Kinds.{is_end}
 use Rattle.rules.specs.Transactions.{any, of}
 use Rattle.rules.specs.Checkpoints.{held_by}
 use Rattle.record.specs.Bytes.{records_in}
-use Rattle.journal.specs.declared.transactions.Trace.{Trace}
-use Rattle.journal.specs.Walks.{trace_of}
 use Rattle.journal.specs.EndsLaws.{ended_behind}
 use Rattle.journal.proofs.transactions.is_held.Goals as goal
 
 gone : (t : ℕ) (whole : List Record) (r : Record) → any is_end (of r.transaction whole) ≡ true → false ≡ held_by t whole r
 gone t whole r e = rw (e, and_false, and_false)
-
-module _ (t : ℕ) (whole : List Record) (r : Record) (s : Trace) (k : r.kind ≡ 1) (e : s ≡ trace_of (of r.transaction whole)) where
-  told : (b d : Bool) → s.begun ≡ b → s.ended ≡ d → ((b && not d) && ltb s.snapshot t) ≡ held_by t whole r
-  told b d p q =
-      rw (eq-eqb _ _ k)
-      (ap (λ (x : Bool). (x && not d) && ltb s.snapshot t) (sym p)
-      ∙ ap (λ (x : Bool). (s.begun && not x) && ltb s.snapshot t) (sym q)
-      ∙ ap (λ (x : Trace). (x.begun && not x.ended) && ltb x.snapshot t) e)
 
 pub returns-then-is_ended : goal.returns-then-is_ended
 returns-then-is_ended c =

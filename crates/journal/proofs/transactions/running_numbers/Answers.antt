@@ -1,15 +1,15 @@
 -- `journal::transactions::running_numbers` meets its contract. The loop's invariant: the column holds the running transactions that the records
 -- passed begin, and top is one more than the highest number in them. Assumes nothing.
-use mathlib.Core.Path.{◌≡◌, refl}
-use Prim.Native.Nat.{ℕ, ◌≤◌, ◌-◌, ◌+◌, max}
-use lib.ListN.{length, length-set}
+use mathlib.Core.Path.{refl}
+use Prim.Native.Nat.{ℕ, ◌+◌, max}
+use lib.ListN.{length-set}
 use Rattle.rules.specs.declared.Record.{Record}
 use Rattle.rules.specs.Transactions.{opens, running_in}
 use Rattle.record.specs.Bytes.{records_in}
 use Rattle.record.specs.Walks.{onward, turn}
 use Rattle.journal.specs.Ends.{top}
 use Rattle.journal.specs.Gathered.{Gathered}
-use Rattle.journal.specs.GatheredLaws.{gathered_none, gathered_more, gathered_same}
+use Rattle.journal.specs.GatheredLaws.{gathered_more, gathered_same}
 use native.Mathlib.Omega.{arith}
 use Rattle.journal.proofs.transactions.running_numbers.Goals as goal
 use Rattle.journal.proofs.transactions.running_numbers.Goals.{then-opens_at, else-opens_at}

@@ -1,7 +1,7 @@
 -- `journal_store::begin::decide` meets its contract: a law for each way out. Assumes nothing.
 use mathlib.Core.Path.{sym, ◌∙◌}
 use Rattle.record.specs.Laws.{length_records}
-use Rattle.journal_store.specs.Tests.{begin_old, begin_future, begin_many, begin_numbers, begin_room, begin_begun}
+use Rattle.journal_store.specs.Tests.{begin_room, begin_begun}
 use Rattle.journal_store.proofs.begin.decide.Goals as goal
 
 pub returns-then-room-used : goal.returns-then-room-used

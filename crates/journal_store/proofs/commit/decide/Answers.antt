@@ -3,7 +3,7 @@ use mathlib.Core.Path.{sym, ◌∙◌}
 use Rattle.record.specs.Bytes.{records_in}
 use Rattle.record.specs.Laws.{length_records}
 use Rattle.journal.specs.PastLaws.{past_last}
-use Rattle.journal_store.specs.Tests.{commit_unknown, commit_later, commit_conflict, commit_room}
+use Rattle.journal_store.specs.Tests.{commit_room}
 use Rattle.journal_store.proofs.commit.decide.Goals as goal
 
 pub conflict-requires : goal.conflict-requires

@@ -1,7 +1,7 @@
 -- `journal_store::update::decide` meets its contract: a law for each way out. Assumes nothing.
 use mathlib.Core.Path.{sym, ◌∙◌}
 use Rattle.record.specs.Laws.{length_records}
-use Rattle.journal_store.specs.Tests.{update_unknown, update_key, update_full, update_room}
+use Rattle.journal_store.specs.Tests.{update_room}
 use Rattle.journal_store.proofs.update.decide.Goals as goal
 
 pub returns : goal.returns

@@ -1,9 +1,7 @@
 -- `values::kept_effects` meets its contract. The loop's invariant: v is what the first i kept updates make of the old value.
 -- The measure is how many are left. Assumes nothing.
-use mathlib.Core.Path.{◌≡◌, ap, ◌∙◌}
-use Prim.Native.Nat.{ℕ, ◌-◌, ◌≤◌}
-use native.Mathlib.Numerals.{add-one}
-use native.Mathlib.Omega.{arith}
+use mathlib.Core.Path.{◌≡◌}
+use Prim.Native.Nat.{◌-◌, ◌≤◌}
 use Rattle.values.specs.Pass.{kept_effects}
 use Rattle.values.proofs.value.kept_effects.Given as goal
 

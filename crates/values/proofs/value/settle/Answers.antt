@@ -3,7 +3,7 @@
 use mathlib.Core.Path.{◌≡◌, refl, sym, ◌∙◌}
 use mathlib.Core.Bool.{true, false, ◌&&◌}
 use mathlib.Core.List.{List}
-use Prim.Native.Nat.{ℕ, ◌+◌, ◌-◌, ◌*◌, ◌≤◌, ◌<◌}
+use Prim.Native.Nat.{ℕ, ◌+◌, ◌*◌, ◌<◌}
 use native.Mathlib.Numerals.{add-one}
 use native.Mathlib.Omega.{arith}
 use lib.Dec.{leb}
@@ -17,7 +17,6 @@ use Rattle.rules.specs.Values.{settle, value}
 use Rattle.record.specs.Bytes.{records_in, record_at}
 use Rattle.values.specs.Pass.{kept_step, kept_effects, Does}
 use Rattle.values.specs.PassLaws.{kept_more, effects_more, effects_none, effects_unwritten, value_unwritten}
-use Rattle.values.proofs.value.settle.Invariants.{Pass}
 use Rattle.values.proofs.value.settle.Goals as goal
 use Rattle.values.proofs.value.settle.Goals.{then-settles, else-settles, then-writes, else-writes}
 

@@ -1,24 +1,13 @@
 -- `values::value::settle` meets its contract. The loop's invariant says what the kept updates do and not what they hold: for every transaction they do
 -- what the first i records do to the key; and v is the value of the first i records. The measure is how many are left. Assumes nothing.
-use mathlib.Core.Path.{◌≡◌, refl, sym, ◌∙◌}
-use mathlib.Core.Bool.{true, false, ◌&&◌}
+use mathlib.Core.Path.{◌≡◌}
 use mathlib.Core.List.{List}
-use mathlib.Core.Logic.{⊎_elim}
-use Prim.Native.Nat.{ℕ, ◌+◌, ◌-◌, ◌*◌, ◌≤◌, ◌<◌}
-use native.Mathlib.Numerals.{add-one}
-use native.Mathlib.Omega.{arith}
-use lib.Dec.{leb}
-use lib.ListN.{length, set, length-set}
-use Rattle.rules.specs.declared.Record.{Record}
+use Prim.Native.Nat.{ℕ, ◌-◌, ◌≤◌}
+use lib.ListN.{length}
 use Rattle.rules.specs.declared.Value.{Value}
-use Rattle.rules.specs.Kinds.{record_size, is_commit}
-use Rattle.rules.specs.Effects.{effects, writes}
-use Rattle.rules.specs.Transactions.{of}
-use Rattle.rules.specs.Values.{settle, value}
-use Rattle.record.specs.Bytes.{records_in, record_at}
-use Rattle.record.specs.Walks.{finish, arrived}
-use Rattle.values.specs.Pass.{kept_step, kept_effects, Does}
-use Rattle.values.specs.PassLaws.{kept_more, effects_more, effects_none, effects_unwritten, value_unwritten}
+use Rattle.rules.specs.Values.{value}
+use Rattle.record.specs.Bytes.{records_in}
+use Rattle.values.specs.Pass.{Does}
 use Rattle.values.proofs.value.settle.Given as goal
 
 -- before the record at i

@@ -1,7 +1,6 @@
 -- `walk::State::step` meets its contract: a case for each kind that counts. Assumes nothing.
 use mathlib.Core.Path.{◌≡◌}
 use Prim.Native.Nat.{◌+◌}
-use borrow.Author.Tests.{eq-eqb}
 use Rattle.rules.specs.declared.Record.{Record}
 use Rattle.walk.specs.declared.State.{State}
 use Rattle.walk.specs.Walk.{pushed, Without, Stepped}

@@ -1,31 +1,18 @@
 -- `walk::State::without` meets its contract. The loop's invariant: the rest has the rows passed, without those of the number.
 -- Assumes nothing.
-use mathlib.Core.Path.{◌≡◌, refl, sym, ap, ◌∙◌}
+use mathlib.Core.Path.{◌≡◌, sym, ap, ◌∙◌}
 use mathlib.Core.List.{List, ◌∷◌}
-use Prim.Native.Nat.{ℕ, ◌+◌, ◌-◌, ◌≤◌, ◌<◌}
+use Prim.Native.Nat.{ℕ, ◌+◌, ◌<◌}
 use native.Mathlib.Numerals.{add-one}
 use lib.ListN.{get_or}
 use borrow.Author.Tests.{eq-eqb, ne_eqb}
 use Rattle.rules.specs.Transactions.{without}
 use Rattle.walk.specs.declared.State.{State}
-use Rattle.walk.specs.Walk.{started, pushed, latest, Without}
+use Rattle.walk.specs.Walk.{pushed, latest, Without}
 use Rattle.walk.specs.Laws.{push_room, push_rows, push_held}
 use native.Mathlib.Omega.{arith}
 use Rattle.walk.proofs.State.without.Goals as goal
 use Rattle.walk.proofs.State.without.Goals.{then-m-n, else-m-n}
-
-start : (s : State) (n : ℕ) (v : State) → v ≡ started s.last
-    → Without s n 0 (record { last = v.last; above = s.above; count = v.count; numbers = v.numbers; snapshots = v.snapshots })
-start s n v e =
-    rw e
-    (record {
-      last = refl;
-      above = refl;
-      few = omega arith;
-      room = record { numbers = refl; snapshots = refl };
-      rows = refl;
-      held = λ snap h j l. absurd (omega arith);
-    })
 
 module _ (s rest v : State) (n i : ℕ) (w : Without s n i rest) (l : i < 8) where
   stays : (get_or s.numbers i 0 ≡ n → ⊥) → v ≡ pushed rest (get_or s.numbers i 0) (get_or s.snapshots i 0) → Without s n (i + 1) v
