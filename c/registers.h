@@ -16,11 +16,12 @@
  * The library has no lock; the host's lock is held until the new head is in place.
  *
  * Stack. The library allocates nothing; its columns are on the stack. The KB that a call takes on a full store,
- * rounded up, the greater of what the repository's rust/bench/run measures on x86-64 and on Arm:
+ * rounded up, the greatest of what the repository's rust/bench/run measured, with kit 5b on x86-64 and on Arm, and with
+ * kit 13f on x86-64:
  *
  *                   begin  assign, add  read  commit  abort  lookup  list  checkpoint  recover
  *   journal store       9            9    19      25      1      19    59          64       13
- *   map store          13           14     6      20     11       3    36          47        -
+ *   map store          13           20     6      21     22       3    37          47        -
  *
  * What comes back. A call that changes the store returns a head: use it from then on in place of the old one. A
  * refused call returns the head that it was given and changes no lent cell. The answer is the number of the
