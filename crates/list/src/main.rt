@@ -1,5 +1,5 @@
-// The listing program of section 7: a journal from standard input, its listing to standard output. A Rattle program has no status of its own: one line
-// on standard error says how it ended, and `listing` takes its status from that. A run that says nothing has not come to its end.
+// The listing program of section 7: a journal from standard input, its listing to standard output. One line on standard
+// error says how it ended, and `listing` takes its status from that. A run that says nothing has not come to its end.
 #![tactic(auto)]
 
 ghost use Rattle.std.specs.Prelude.{◌≡◌, ◌≤◌, length};

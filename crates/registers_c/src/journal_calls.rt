@@ -8,6 +8,7 @@ ghost use Rattle.registers.specs.Answer.{Answers, JournalReturns};
 use answer::shown::Answer;
 use journal_store::Head;
 use registers::JournalResult;
+use rules::Effect;
 
 // The head of an empty store.
 #[unsafe(no_mangle)]

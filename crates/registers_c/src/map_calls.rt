@@ -9,6 +9,7 @@ ghost use Rattle.registers.specs.Answer.{Answers, MapReturns};
 use answer::shown::Answer;
 use map_store::MapHead;
 use registers::MapResult;
+use rules::Effect;
 
 // The head of an empty store.
 #[unsafe(no_mangle)]

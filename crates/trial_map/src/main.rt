@@ -6,6 +6,7 @@ use map_store::MapHead;
 use script::line::Call;
 use script::rows;
 use script::run::Run;
+use std::io;
 use std::io::Write;
 use streams::input;
 use streams::input::Input;
@@ -36,12 +37,13 @@ fn run<W: Write>(out: &mut W, script: &[u8]) {
     run.ended(out);
 }
 
-// A script that cannot be read is run as an empty one.
-fn main(rt: HostRuntime) {
+// A script that cannot be read is not run.
+fn main(rt: HostRuntime) -> io::Result<()> {
     let mut buffer = [0u8; SCRIPT];
     let count = match input::read_all(&mut rt.stdin(), &mut buffer) {
         Input::Ended(count) => count,
-        Input::Failed => 0,
+        Input::Failed => return Err(io::Error::from(io::ErrorKind::Other)),
     };
     run(&mut rt.stdout(), &buffer[..count]);
+    Ok(())
 }
