@@ -1,4 +1,4 @@
--- What the answer of `firstRow` says of a column's rows, both ways. Assumes nothing.
+-- What the answer of `first_row` says of a column's rows, both ways. Assumes nothing.
 use Rattle.std.specs.Prelude.{Bool, true, false, List, [], ◌∷◌, ◌⊎◌, ◌≡◌, refl, ℕ, zero, suc, ◌+◌, ◌≤◌, ◌<◌, eqb, length, get_or}
 use Rattle.std.proofs.Common.{inl, inr, ⊎_elim, ap, ◌∙◌, le_of_suc-le-suc, not-suc-le-zero, arith, eqb-true}
 use Rattle.std.proofs.lemmas.Bool.{eqb-false}
@@ -21,7 +21,7 @@ all_rows : (P : ℕ → Type 0) (x : ℕ) (xs : List ℕ) {n : ℕ} → P x → 
 all_rows P x xs p ps zero l = p
 all_rows P x xs p ps (suc j) l = ps j (le_of_suc-le-suc l)
 
--- `firstFrom` gives one of its two answers, with what it says of the rows
+-- `first_from` gives one of its two answers, with what it says of the rows
 seen : (n k : ℕ) (xs : List ℕ)
     → ((i : ℕ) × (first_from n k xs ≡ found.At (n + i)) × First k xs i) ⊎ ((first_from n k xs ≡ found.Nothing) × Absent k xs)
 seen n k [] = inr (refl, λ j l. absurd (not-suc-le-zero l))

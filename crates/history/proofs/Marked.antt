@@ -1,6 +1,6 @@
 -- Section 8: the eleven marked examples, from figure 7 (b) and (c) with x as key 1 and y as key 2, as one table under one claim. An example is its calls on
 -- two empty stores, a lookup, and what it gives; the claim has what each store answers to the lookup, shape test and all, behind the calls on lent cells.
--- What the calls make of the cells is what their contracts say (`called_on`, `noted-by`, `versioned-by`). Assumes nothing.
+-- What the calls make of the cells is what their contracts say (`called_on_lem`, `noted_by`, `versioned_by`). Assumes nothing.
 use Rattle.std.specs.Prelude.{◌≡◌, refl, List, [], ◌∷◌, ℕ, eqb, replicate}
 use Rattle.rules.specs.declared.Value.TheVariants.{Absent, Present}
 use Rattle.rules.specs.declared.Effect.TheVariants.{Assign, Add}

@@ -1,4 +1,4 @@
--- `versions::search::newer_row` meets its contract: each way out is the case of `newestStep` that its tests lead to.
+-- `versions::search::newer_row` meets its contract: each way out is the case of `newest_step` that its tests lead to.
 use mathlib.Core.Path.{◌≡◌, sym, ◌∙◌}
 use Prim.Native.Nat.{ℕ, ◌+◌, ◌≤◌, ◌<◌}
 use native.Mathlib.Numerals.{add-one}
