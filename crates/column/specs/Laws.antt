@@ -1,5 +1,5 @@
 -- What the answer of `first_row` says of a column's rows, both ways. Assumes nothing.
-use Rattle.std.specs.Prelude.{Bool, true, false, List, [], ◌∷◌, ◌⊎◌, ◌≡◌, refl, ℕ, zero, suc, ◌+◌, ◌≤◌, ◌<◌, eqb, length, get_or}
+use Rattle.std.specs.Prelude.{List, [], ◌∷◌, ◌⊎◌, ◌≡◌, refl, ℕ, zero, suc, ◌+◌, ◌<◌, eqb, length, get_or}
 use Rattle.std.proofs.Common.{inl, inr, ⊎_elim, ap, ◌∙◌, le_of_suc-le-suc, not-suc-le-zero, arith, eqb-true}
 use Rattle.std.proofs.lemmas.Bool.{eqb-false}
 use Rattle.rules.specs.Bools.{split}

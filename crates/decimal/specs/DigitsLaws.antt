@@ -1,5 +1,5 @@
 -- Laws of digits. Assumes nothing.
-use Rattle.std.specs.Prelude.{◌≡◌, refl, cond, [], ◌∷◌, ◌++◌, ℕ, zero, suc, ◌+◌, ◌-◌, ◌/◌, ◌%◌, ◌≤◌, ◌<◌, ltb}
+use Rattle.std.specs.Prelude.{◌≡◌, refl, cond, [], ◌∷◌, ◌++◌, ℕ, zero, suc, ◌/◌, ◌%◌, ◌≤◌, ◌<◌, ltb}
 use Rattle.std.proofs.Common.{◌∙◌, arith, lt-ltb, le-ltb}
 use Rattle.decimal.specs.Digits.{glyph, digits_in, digits}
 

@@ -1,7 +1,7 @@
 -- The demands on the journal store, over any sequence of calls, checkpoints and restarts from an empty store, with whatever room is lent to each,
 -- refused calls included (Cells). The answers are those that the calls' contracts give on the lent cells; what they are held to is the history of
 -- the accepted calls, as if no checkpoint had been taken (History, Refusals). Assumes nothing.
-use Rattle.std.specs.Prelude.{◌≡◌, refl, Bool, cond, not, List, ℕ, ◌-◌, ◌≤◌, eqb, leb, ltb, length}
+use Rattle.std.specs.Prelude.{◌≡◌, refl, Bool, cond, not, List, ℕ, ◌≤◌, eqb, leb, ltb, length}
 use Rattle.std.proofs.Common.{ap, sym, ◌∙◌, arith, eqb-true, eq-eqb, le-leb, le-ltb, ltb-false}
 use Rattle.std.proofs.lemmas.Bool.{not-false, eqb-false}
 use Rattle.rules.specs.declared.Value.TheVariants.{Absent, Present}

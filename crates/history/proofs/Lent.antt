@@ -1,5 +1,5 @@
 -- What lent cells of a store that calls reach mean, and what its answers are then. Assumes nothing.
-use Rattle.std.specs.Prelude.{◌≡◌, refl, Bool, true, cond, List, ◌++◌, ℕ, ◌+◌, eqb, length, drop}
+use Rattle.std.specs.Prelude.{◌≡◌, refl, Bool, true, cond, List, ◌++◌, ℕ, eqb, length, drop}
 use Rattle.std.proofs.Common.{ap, sym, ◌∙◌, eqb-true}
 use Rattle.rules.specs.declared.Value.{Value}
 use Rattle.rules.specs.declared.Value.TheVariants.{Absent, Present}

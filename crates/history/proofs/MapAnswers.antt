@@ -13,7 +13,7 @@ use Rattle.slot.specs.RowLaws.{length_keys}
 use Rattle.rules.specs.Running.{wrote_among}
 use Rattle.slot.specs.Places.{Note, note_keys, Place, taken, place_of, holds}
 use Rattle.versions.specs.declared.Version.{Version}
-use Rattle.versions.specs.Versions.{at, later}
+use Rattle.versions.specs.Versions.{later}
 use Rattle.map_store.specs.Meaning.{MapStore, firsts, clash, read_at, abort_refusal, update_refusal, commit_refusal}
 use Rattle.history.specs.History.{Deed, Did, Checkpointed}
 use Rattle.history.specs.Refusals.{any_of}

@@ -3,7 +3,6 @@ use Rattle.std.specs.Prelude.{◌≡◌, refl, List, [], ◌∷◌, ◌++◌, �
 use Rattle.std.proofs.Common.{pow-suc, div-add-mod', mul_assoc, zero-add, arith, length-take, length-drop, take-add, drop-drop, drop-cons, get_or-take, get_or-drop, length-take-le}
 use Rattle.std.proofs.Math.Nat.{one-le-pow}
 use Rattle.std.proofs.lemmas.List.{drop-append-le, take-append-le}
-use Rattle.std.proofs.Math.Seq.{take-length}
 use Rattle.record.specs.Bytes.{Bytes, le, field_at, le_bytes}
 
 -- a number's bytes spell it

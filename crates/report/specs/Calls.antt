@@ -1,6 +1,6 @@
 -- What list and recover of the journal store give here: a list at last with room for every row is never refused, and the reply of recover decides
 -- the text. Assumes nothing.
-use Rattle.std.specs.Prelude.{◌≡◌, refl, Bool, true, false, cond, not, ◌&&◌, List, ◌++◌, ℕ, ◌+◌, ◌≤◌, eqb, leb, length, take, drop}
+use Rattle.std.specs.Prelude.{◌≡◌, refl, Bool, true, false, cond, not, ◌&&◌, List, ◌++◌, ℕ, ◌≤◌, eqb, leb, length, take, drop}
 use Rattle.std.proofs.Common.{sym, ap, ◌∙◌, zero-add, arith, length-append, le-ltb, leb-true, leb-false, eqb-true}
 use Rattle.std.proofs.Math.Nat.{le-min}
 use Rattle.std.proofs.lemmas.Bool.{eqb-false, not-true}

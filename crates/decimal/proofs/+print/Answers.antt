@@ -4,7 +4,7 @@ use mathlib.Core.List.{List, ◌∷◌, ◌++◌, append_assoc}
 use Prim.Native.Nat.{ℕ, suc, ◌+◌, ◌/◌, ◌%◌, ◌≤◌, ◌<◌}
 use native.Mathlib.Omega.{arith}
 use native.Mathlib.Numerals.{add-one}
-use lib.ListN.{length, take, drop, set, get_or, length-set, length-append}
+use lib.ListN.{length, take, drop, set, get_or, length-append}
 use lib.Seq.{set_split, set_at, drop-cons, length-take-le}
 use Rattle.decimal.specs.Digits.{glyph, digits}
 use Rattle.decimal.specs.DigitsLaws.{digits_short, digits_long}

@@ -1,13 +1,11 @@
 -- `record::put` meets its contract. The loop's invariant: what is written up to i, with what is left of the number still to write, is what
 -- the contract says. The measure is what is left of the width. Assumes nothing.
-use mathlib.Core.Path.{◌≡◌, refl, sym, ◌∙◌}
-use mathlib.Core.List.{List, ◌++◌, append_assoc}
+use mathlib.Core.Path.{◌≡◌, ◌∙◌}
+use mathlib.Core.List.{List, append_assoc}
 use Prim.Native.Nat.{ℕ, suc, ◌≤◌, ◌<◌, ◌-◌, ◌+◌, ◌/◌, ◌%◌}
 use native.Mathlib.Omega.{arith}
-use native.Mathlib.Nat.{sub-zero, add-zero}
-use lib.ListN.{length, take, drop, set, length-set, take-append-drop}
+use lib.ListN.{length, set, length-set, take-append-drop}
 use lib.Seq.{take-suc-set, drop-set-lt}
-use Rattle.record.specs.Bytes.{le_bytes, written}
 use Rattle.record.proofs.put.Invariants.{whole}
 use Rattle.record.proofs.put.Goals as goal
 

@@ -1,6 +1,6 @@
 -- `report::field` meets its contract: a name and the digits of a number, one behind the other. Assumes nothing.
 use Rattle.decimal.specs.Digits.{digits}
-use Rattle.report.specs.Laws.{printed, fits_first, fits_then, then}
+use Rattle.report.specs.Laws.{printed, fits_first, then}
 use Rattle.report.proofs.field.Goals as goal
 
 pub returns : goal.returns

@@ -1,6 +1,6 @@
 -- `report::line` meets its contract: a field and the newline, one behind the other. Assumes nothing.
 use Rattle.report.specs.Text.{field, newline}
-use Rattle.report.specs.Laws.{fits_first, fits_then, then}
+use Rattle.report.specs.Laws.{fits_first, then}
 use Rattle.report.proofs.line.Goals as goal
 
 pub returns : goal.returns

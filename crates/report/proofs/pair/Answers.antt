@@ -1,6 +1,6 @@
 -- `report::pair` meets its contract: a field and a line, one behind the other. Assumes nothing.
 use Rattle.report.specs.Text.{field, line}
-use Rattle.report.specs.Laws.{fits_first, fits_then, then}
+use Rattle.report.specs.Laws.{fits_first, then}
 use Rattle.report.proofs.pair.Goals as goal
 
 pub returns : goal.returns

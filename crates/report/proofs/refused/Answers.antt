@@ -1,10 +1,8 @@
 -- `report::refused` meets its contract: the line of two numbers fits. Assumes nothing.
-use mathlib.Core.Path.{ap, ◌∙◌}
-use Prim.Native.Nat.{ℕ}
 use native.Mathlib.Omega.{arith}
 use Rattle.decimal.specs.Laws.{digits_64}
-use Rattle.report.specs.Text.{refused_is, record_is, pair_line, refused_text}
-use Rattle.report.specs.Laws.{length_pair, called}
+use Rattle.report.specs.Text.{refused_is, record_is}
+use Rattle.report.specs.Laws.{length_pair}
 use Rattle.report.proofs.refused.Goals as goal
 
 pub pair-requires : goal.pair-requires

@@ -1,6 +1,6 @@
 -- `sample::counted_from` meets its contract. The loop's invariant: the cells that are filled and those that are left, counted from `at` on,
 -- are the whole column. Assumes nothing.
-use mathlib.Core.Path.{◌≡◌, refl}
+use mathlib.Core.Path.{◌≡◌}
 use mathlib.Core.List.{List, ◌++◌}
 use Prim.Native.Nat.{ℕ, suc, ◌+◌, ◌-◌, ◌≤◌, ◌<◌}
 use native.Mathlib.Omega.{arith}

@@ -1,12 +1,10 @@
 -- `sample::counted_from` meets its contract. The loop's invariant: the cells that are filled and those that are left, counted from `at` on,
 -- are the whole column. Assumes nothing.
-use mathlib.Core.Path.{◌≡◌, refl}
-use mathlib.Core.List.{List, ◌++◌}
-use Prim.Native.Nat.{ℕ, suc, ◌+◌, ◌-◌, ◌≤◌, ◌<◌}
-use native.Mathlib.Omega.{arith}
-use lib.ListN.{length, take, set, length-set}
+use mathlib.Core.Path.{◌≡◌}
+use mathlib.Core.List.{◌++◌}
+use Prim.Native.Nat.{◌+◌, ◌-◌, ◌≤◌}
+use lib.ListN.{length, take}
 use Rattle.sample.specs.Sample.{counted_from}
-use Rattle.sample.proofs.Laid.{laid, all_laid}
 use Rattle.sample.proofs.counted_from.Given as goal
 
 abbrev pub invariant-loop-i : goal.invariant-loop-i

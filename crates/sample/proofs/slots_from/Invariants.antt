@@ -1,13 +1,10 @@
 -- `sample::slots_from` meets its contract. The loop's invariant: the slots that are filled and those that are left, counted from `at` on,
 -- are all eight. Assumes nothing.
-use mathlib.Core.Path.{◌≡◌, refl}
-use mathlib.Core.List.{List, ◌++◌}
-use Prim.Native.Nat.{ℕ, suc, ◌+◌, ◌*◌, ◌-◌, ◌≤◌, ◌<◌}
-use native.Mathlib.Omega.{arith}
-use lib.ListN.{length, take, set, length-set}
-use Rattle.slot.specs.declared.Slot.{Slot}
-use Rattle.sample.specs.Sample.{slot_from, slots_from}
-use Rattle.sample.proofs.Laid.{laid, all_laid}
+use mathlib.Core.Path.{◌≡◌}
+use mathlib.Core.List.{◌++◌}
+use Prim.Native.Nat.{◌+◌, ◌*◌, ◌-◌, ◌≤◌}
+use lib.ListN.{length, take}
+use Rattle.sample.specs.Sample.{slots_from}
 use Rattle.sample.proofs.slots_from.Given as goal
 
 abbrev pub invariant-loop-i : goal.invariant-loop-i

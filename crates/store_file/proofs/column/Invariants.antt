@@ -1,6 +1,5 @@
 -- `store_file::column` meets its contract. The loop's invariant: the rows passed, and the column of those that are left, are the whole. Assumes nothing.
-use Rattle.std.proofs.Common.{◌≡◌, ℕ, suc, ◌+◌, ◌-◌, ◌*◌, ◌<◌, ◌≤◌, List, ◌++◌, length, take, drop, set, sym, refl, ◌∙◌, append_assoc, add-zero, arith, length-set, take-append-drop, take-suc-set, drop-set-lt, rules}
-use native.Mathlib.Nat.{sub-zero}
+use Rattle.std.proofs.Common.{◌≡◌, ℕ, suc, ◌+◌, ◌-◌, ◌*◌, ◌<◌, ◌≤◌, List, ◌++◌, length, take, drop, set, append_assoc, arith, take-append-drop, take-suc-set, drop-set-lt}
 use Rattle.record.specs.Bytes.{field_at}
 use Rattle.store_file.specs.Layout.{base_row_bytes, column_of}
 use Rattle.store_file.proofs.column.Given as goal

@@ -1,7 +1,6 @@
 -- `store_file::sum` meets its contract. The loop's invariant: the sum so far, gone on with the bytes that are left, is the sum of all. Assumes nothing.
-use Rattle.std.proofs.Common.{◌≡◌, ℕ, ◌+◌, ◌-◌, ◌*◌, ◌%◌, ◌^◌, ◌<◌, ◌≤◌, List, length, get_or, drop, sym, refl, ap, ◌∙◌, add-one, arith, drop-cons, rules}
-use lib.Seq.{drop-length}
-use Rattle.store_file.specs.Layout.{sum_factor, sum_from, sum_of}
+use Rattle.std.proofs.Common.{◌≡◌, ◌-◌, ◌≤◌, length, drop}
+use Rattle.store_file.specs.Layout.{sum_from, sum_of}
 use Rattle.store_file.proofs.sum.Given as goal
 
 abbrev pub invariant-loop-i : goal.invariant-loop-i

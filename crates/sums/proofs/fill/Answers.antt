@@ -1,8 +1,7 @@
 -- `sums::fill` meets its contract: what is left to fill completes to the answer, and each turn leaves one byte less. Assumes nothing.
-use Rattle.std.proofs.Common.{◌≡◌, ◌-◌, length, arith, length-set, rules}
-use native.Mathlib.Nat.{min-le_right}
+use Rattle.std.proofs.Common.{length-set, rules}
 use Rattle.sums.proofs.Turns.{byte_filled}
-use Rattle.sums.specs.Sums.{fill_on, filled}
+use Rattle.sums.specs.Sums.{filled}
 use Rattle.sums.proofs.fill.Goals as goal
 
 pub loop-i-init : goal.loop-i-init

@@ -1,6 +1,6 @@
 -- `sums::of_bytes` meets its contract: what is left of the column completes to the sum, and each turn leaves one cell less. Assumes nothing.
-use Rattle.std.proofs.Common.{◌-◌, length, ◌∙◌, arith, rules}
-use Rattle.sums.proofs.Turns.{Adding, starts, added, ends}
+use Rattle.std.proofs.Common.{◌-◌, length}
+use Rattle.sums.proofs.Turns.{Adding}
 use Rattle.sums.proofs.of_bytes.Given as goal
 
 abbrev pub invariant-loop-i : goal.invariant-loop-i
