@@ -1,20 +1,12 @@
 -- The laws of answers: no refusal has number 0, what is there after a refused and after an accepted call, and an answer is determined by its
 -- number and value. Assumes nothing.
-use Rattle.std.specs.Prelude.{◌≡◌, refl, false, cond, [], ◌∷◌, ℕ, ◌-◌, eqb, get_or}
+use Rattle.std.specs.Prelude.{◌≡◌, refl, false, cond, [], ◌∷◌, ℕ, ◌-◌, eqb, get_or, Result, Some, None, Ok, Err}
 use Rattle.std.proofs.Common.{sym, ap, ◌∙◌}
-use Rattle.rules.specs.declared.Value.{Value}
+use Rattle.rules.specs.Value.{Value}
 use Rattle.rules.specs.Effects.{or_zero}
 use Rattle.answer.specs.declared.Refusal.{Refusal}
 use Rattle.answer.specs.declared.Refusal.TheVariants.{BadShape, UnknownTransaction, BadKey, TooOld, Future, TooMany, NoNumbers, KeysFull, Held, NotLater, Conflict, NoRoom, BadRecord}
-use Rattle.answer.specs.declared.Begun.{Begun}
-use Rattle.answer.specs.declared.Begun.TheVariants as begun
-use Rattle.answer.specs.declared.Got.{Got}
-use Rattle.answer.specs.declared.Got.TheVariants as got
-use Rattle.answer.specs.declared.Done.{Done}
-use Rattle.answer.specs.declared.Done.TheVariants as done
-use Rattle.answer.specs.declared.Listed.{Listed}
-use Rattle.answer.specs.declared.Listed.TheVariants as listed
-use Rattle.answer.specs.Reply.{Reply, number_of, refused, of_begun, of_got, of_done, of_listed, after}
+use Rattle.answer.specs.Reply.{Reply, number_of, refused, of_result, of_begun, of_got, of_done, of_listed, after}
 
 -- the refusal that a number and a place name
 abbrev named : Reply → Refusal
@@ -58,49 +50,27 @@ told_apart of from back a b e = sym (back a) ∙ ap from e ∙ back b
 pub refusal_only : (x y : Refusal) → refused x ≡ refused y → x ≡ y
 refusal_only = told_apart refused named (λ x. (known x).back)
 
--- an answer from its reply: accepted with its value, or refused
-abbrev from : {A : Type 0} → (Value → A) → (Refusal → A) → Reply → A
-from taken turned r = cond (eqb r.number 0) (taken r.value) (turned (named r))
+-- an answer from its reply: accepted with what it gives, or refused
+abbrev from : {A : Type 0} → (Value → A) → Reply → Result A Refusal
+from taken r = cond (eqb r.number 0) (Ok (taken r.value)) (Err (named r))
 
-refused_back : {A : Type 0} (taken : Value → A) (turned : Refusal → A) (x : Refusal) → from taken turned (refused x) ≡ turned x
-refused_back taken turned x = rw (refused_some x, (known x).back)
+module _ {A : Type 0} (given : A → Value) (taken : Value → A) (round : (x : A) → taken (given x) ≡ x) where
+  from_back : (a : Result A Refusal) → from taken (of_result given a) ≡ a
+  from_back (Ok x) = ap (λ (y : A). Ok y) (round x)
+  from_back (Err x) = rw (refused_some x, (known x).back)
 
-abbrev begun_from : Reply → Begun
-begun_from = from (λ v. begun.Number (or_zero v)) begun.Refused
+  -- where what is given tells what it was given from, the reply tells the answer
+  pub result_only : (a b : Result A Refusal) → of_result given a ≡ of_result given b → a ≡ b
+  result_only = told_apart (of_result given) (from taken) from_back
 
-begun_back : (a : Begun) → begun_from (of_begun a) ≡ a
-begun_back (begun.Number n) = refl
-begun_back (begun.Refused x) = refused_back (λ v. begun.Number (or_zero v)) begun.Refused x
+pub begun_only : (a b : Result ℕ Refusal) → of_begun a ≡ of_begun b → a ≡ b
+begun_only = result_only (λ n. Some n) or_zero (λ n. refl)
 
-pub begun_only : (a b : Begun) → of_begun a ≡ of_begun b → a ≡ b
-begun_only = told_apart of_begun begun_from begun_back
+pub got_only : (a b : Result Value Refusal) → of_got a ≡ of_got b → a ≡ b
+got_only = result_only (λ v. v) (λ v. v) (λ v. refl)
 
-abbrev got_from : Reply → Got
-got_from = from got.Value got.Refused
+pub done_only : (a b : Result Unit Refusal) → of_done a ≡ of_done b → a ≡ b
+done_only = result_only (λ _. None) (λ _. tt) (λ _. refl)
 
-got_back : (a : Got) → got_from (of_got a) ≡ a
-got_back (got.Value v) = refl
-got_back (got.Refused x) = refused_back got.Value got.Refused x
-
-pub got_only : (a b : Got) → of_got a ≡ of_got b → a ≡ b
-got_only = told_apart of_got got_from got_back
-
-abbrev done_from : Reply → Done
-done_from = from (λ v. done.Accepted) done.Refused
-
-done_back : (a : Done) → done_from (of_done a) ≡ a
-done_back done.Accepted = refl
-done_back (done.Refused x) = refused_back (λ v. done.Accepted) done.Refused x
-
-pub done_only : (a b : Done) → of_done a ≡ of_done b → a ≡ b
-done_only = told_apart of_done done_from done_back
-
-abbrev listed_from : Reply → Listed
-listed_from = from (λ v. listed.Rows (or_zero v)) listed.Refused
-
-listed_back : (a : Listed) → listed_from (of_listed a) ≡ a
-listed_back (listed.Rows n) = refl
-listed_back (listed.Refused x) = refused_back (λ v. listed.Rows (or_zero v)) listed.Refused x
-
-pub listed_only : (a b : Listed) → of_listed a ≡ of_listed b → a ≡ b
-listed_only = told_apart of_listed listed_from listed_back
+pub listed_only : (a b : Result ℕ Refusal) → of_listed a ≡ of_listed b → a ≡ b
+listed_only = result_only (λ n. Some n) or_zero (λ n. refl)

@@ -1,18 +1,9 @@
 -- Section 6: the paper's number and value of every answer. Assumes nothing.
-use Rattle.std.specs.Prelude.{cond, ℕ, eqb}
-use Rattle.rules.specs.declared.Value.{Value}
-use Rattle.rules.specs.declared.Value.TheVariants.{Absent, Present}
+use Rattle.std.specs.Prelude.{cond, ℕ, eqb, Result, Some, None, Ok, Err}
+use Rattle.rules.specs.Value.{Value}
 use Rattle.rules.specs.Effects.{or_zero}
 use Rattle.answer.specs.declared.Refusal.{Refusal}
 use Rattle.answer.specs.declared.Refusal.TheVariants.{BadShape, UnknownTransaction, BadKey, TooOld, Future, TooMany, NoNumbers, KeysFull, Held, NotLater, Conflict, NoRoom, BadRecord}
-use Rattle.answer.specs.declared.Begun.{Begun}
-use Rattle.answer.specs.declared.Begun.TheVariants as begun
-use Rattle.answer.specs.declared.Got.{Got}
-use Rattle.answer.specs.declared.Got.TheVariants as got
-use Rattle.answer.specs.declared.Done.{Done}
-use Rattle.answer.specs.declared.Done.TheVariants as done
-use Rattle.answer.specs.declared.Listed.{Listed}
-use Rattle.answer.specs.declared.Listed.TheVariants as listed
 
 -- what a call answers: its number, and the value that goes with it
 pub record Reply : Type 0 where
@@ -37,19 +28,19 @@ number_of (BadRecord i) = 13
 
 -- the place that 13 gives, nothing for the others
 abbrev pub place_of : Refusal → Value
-place_of BadShape = Absent
-place_of UnknownTransaction = Absent
-place_of BadKey = Absent
-place_of TooOld = Absent
-place_of Future = Absent
-place_of TooMany = Absent
-place_of NoNumbers = Absent
-place_of KeysFull = Absent
-place_of Held = Absent
-place_of NotLater = Absent
-place_of Conflict = Absent
-place_of NoRoom = Absent
-place_of (BadRecord i) = Present i
+place_of BadShape = None
+place_of UnknownTransaction = None
+place_of BadKey = None
+place_of TooOld = None
+place_of Future = None
+place_of TooMany = None
+place_of NoNumbers = None
+place_of KeysFull = None
+place_of Held = None
+place_of NotLater = None
+place_of Conflict = None
+place_of NoRoom = None
+place_of (BadRecord i) = Some i
 
 -- the place as a number, 0 for none
 abbrev pub place_number : Refusal → ℕ
@@ -63,34 +54,30 @@ refused x = record { number = number_of x; value = place_of x }
 abbrev pub accepted : Value → Reply
 accepted v = record { number = 0; value = v }
 
--- the transaction number
-abbrev pub of_begun : Begun → Reply
-of_begun (begun.Number n) = accepted (Present n)
-of_begun (begun.Refused x) = refused x
+-- an accepted call answers 0 and what it gives, a refused one why
+abbrev pub of_result : {A : Type 0} → (A → Value) → Result A Refusal → Reply
+of_result given (Ok x) = accepted (given x)
+of_result given (Err x) = refused x
 
--- the transaction number, 0 where the call was refused
-abbrev pub begun_number : Begun → ℕ
-begun_number (begun.Number n) = n
-begun_number (begun.Refused x) = 0
+-- begin gives the transaction number
+abbrev pub of_begun : Result ℕ Refusal → Reply
+of_begun = of_result (λ n. Some n)
 
--- the value or absent
-abbrev pub of_got : Got → Reply
-of_got (got.Value v) = accepted v
-of_got (got.Refused x) = refused x
+-- read and lookup give the value or absent
+abbrev pub of_got : Result Value Refusal → Reply
+of_got = of_result (λ v. v)
 
--- nothing but the number
-abbrev pub of_done : Done → Reply
-of_done done.Accepted = accepted Absent
-of_done (done.Refused x) = refused x
+-- update, abort, commit, checkpoint and recover give nothing but the number
+abbrev pub of_done : Result Unit Refusal → Reply
+of_done = of_result (λ _. None)
 
--- the count of rows
-abbrev pub of_listed : Listed → Reply
-of_listed (listed.Rows n) = accepted (Present n)
-of_listed (listed.Refused x) = refused x
+-- list gives the count of rows
+abbrev pub of_listed : Result ℕ Refusal → Reply
+of_listed = of_result (λ n. Some n)
 
 -- the reply of a call that gets a number: its value where it is accepted, else the number alone
 abbrev pub told : ℕ → Value → Reply
-told n v = record { number = n; value = cond (eqb n 0) v Absent }
+told n v = record { number = n; value = cond (eqb n 0) v None }
 
 -- what is there after a call that gets a number: something new where it is accepted, else what was there
 abbrev pub after {ℓ} : {A : Type ℓ} → ℕ → A → A → A

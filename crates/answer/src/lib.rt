@@ -1,11 +1,8 @@
-// Section 6: what the calls of both stores answer. A refused call answers its number alone, 13 also its place; what an accepted one answers
-// is its own enum's.
+// Section 6: what the calls of both stores answer: `Ok` with what the call gives, or `Err` with why it was refused.
 #![tactic(auto)]
 
-ghost use Rattle.std.specs.Prelude.{◌≡◌, eqb};
-ghost use Rattle.answer.specs.Reply.{number_of, place_number, begun_number, of_begun, of_done, of_listed};
-
-use rules::Value;
+ghost use Rattle.std.specs.Prelude.{◌≡◌};
+ghost use Rattle.answer.specs.Reply.{number_of, place_of};
 
 pub mod shown;
 
@@ -28,7 +25,7 @@ pub enum Refusal {
 }
 
 impl Refusal {
-    // The number of section 6.
+    // The number of section 6. A method, since `u32::from` would not say whether it is the number or the place.
     pub fn number(self) -> u32
         ensures { result ≡ number_of self }
     {
@@ -49,98 +46,20 @@ impl Refusal {
         }
     }
 
-    // The place of the record that refusal 13 names, 0 for the others.
-    pub fn place(self) -> usize
-        ensures { result ≡ place_number self }
+    // The place of the record that refusal 13 names, none for the others.
+    pub fn place(self) -> Option<usize>
+        ensures { result ≡ place_of self }
     {
         match self {
-            Refusal::BadRecord(place) => place,
-            Refusal::BadShape => 0,
-            Refusal::UnknownTransaction => 0,
-            Refusal::BadKey => 0,
-            Refusal::TooOld => 0,
-            Refusal::Future => 0,
-            Refusal::TooMany => 0,
-            Refusal::NoNumbers => 0,
-            Refusal::KeysFull => 0,
-            Refusal::Held => 0,
-            Refusal::NotLater => 0,
-            Refusal::Conflict => 0,
-            Refusal::NoRoom => 0,
+            Refusal::BadRecord(place) => Some(place),
+            _ => None,
         }
     }
 }
 
-// What begin answers.
+// What a call that changes a store returns: the head to use from then on, and its answer. A refused call gives the head back as it was.
 #[derive(Clone, Copy)]
-pub enum Begun {
-    Number(u32),
-    Refused(Refusal),
-}
-
-impl Begun {
-    // Whether the call was accepted.
-    pub fn accepted(self) -> bool
-        ensures { result ≡ eqb (of_begun self).number 0 }
-    {
-        match self {
-            Begun::Number(_) => true,
-            Begun::Refused(_) => false,
-        }
-    }
-
-    // The transaction's number, 0 where there is none.
-    pub fn number(self) -> u32
-        ensures { result ≡ begun_number self }
-    {
-        match self {
-            Begun::Number(n) => n,
-            Begun::Refused(_) => 0,
-        }
-    }
-}
-
-// What read and lookup answer.
-#[derive(Clone, Copy)]
-pub enum Got {
-    Value(Value),
-    Refused(Refusal),
-}
-
-// What update, abort, commit, checkpoint and recover answer.
-#[derive(Clone, Copy)]
-pub enum Done {
-    Accepted,
-    Refused(Refusal),
-}
-
-impl Done {
-    // Whether the call was accepted.
-    pub fn accepted(self) -> bool
-        ensures { result ≡ eqb (of_done self).number 0 }
-    {
-        match self {
-            Done::Accepted => true,
-            Done::Refused(_) => false,
-        }
-    }
-}
-
-// What list answers: how many rows it filled.
-#[derive(Clone, Copy)]
-pub enum Listed {
-    Rows(usize),
-    Refused(Refusal),
-}
-
-impl Listed {
-    // Whether the call was accepted.
-    pub fn accepted(self) -> bool
-        ensures { result ≡ eqb (of_listed self).number 0 }
-    {
-        match self {
-            Listed::Rows(_) => true,
-            Listed::Refused(_) => false,
-        }
-    }
+pub struct Outcome<H, T> {
+    pub head: H,
+    pub answer: Result<T, Refusal>,
 }

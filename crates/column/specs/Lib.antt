@@ -1,6 +1,5 @@
 -- What a reader must believe.
 pub mod Column
-pub mod Among
 -- Laws of it, and that no second answer satisfies a contract.
 pub mod AmongLaws
 pub mod Laws

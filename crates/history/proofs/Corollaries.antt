@@ -1,9 +1,8 @@
 -- What shuts out trivial stores, for both: an assign that was committed is looked up and listed, whatever came before it. And demand 1: every call
 -- answers, and a refused one changes no cell, so that all answers stay as they were. Assumes nothing.
-use Rattle.std.specs.Prelude.{◌≡◌, refl, true, not, List, ◌∷◌, ◌≢◌, ℕ, ◌≤◌, max, eqb, leb, ltb, length}
+use Rattle.std.specs.Prelude.{◌≡◌, refl, true, not, List, ◌∷◌, ◌≢◌, ℕ, ◌≤◌, max, eqb, leb, ltb, length, Some}
 use Rattle.std.proofs.Common.{ap, ◌∙◌, arith, eq-eqb, ne_eqb, le-leb, le-ltb, ltb-false, leb-false}
 use Rattle.std.proofs.lemmas.Bool.{not-false, eqb-false}
-use Rattle.rules.specs.declared.Value.TheVariants.{Present}
 use Rattle.rules.specs.declared.Effect.TheVariants.{Assign}
 use Rattle.rules.specs.Values.{Row, row_value}
 use Rattle.rules.specs.Lists.{among}
@@ -48,7 +47,7 @@ module _ {ds : List Deed} (n k v t : ℕ) (ok : Lawful (Did (Commit n t) ∷ Did
       (not-false (among n (numbers (history ds).runners)) a.0, eqb-false k 0 b.0)
 
   -- the history's value
-  assigned : value_in told_by.commitments t k ≡ Present v
+  assigned : value_in told_by.commitments t k ≡ Some v
   assigned =
       rw (
         le-leb t t (omega arith),
@@ -76,7 +75,7 @@ module _ {ds : List Deed} (n k v t : ℕ) (ok : Lawful (Did (Commit n t) ∷ Did
       (ltb-false _ _ old.0, ltb-false _ _ new.0)
 
   -- and the history's row
-  row : row_value (list_in told_by.commitments t) k ≡ Present v
+  row : row_value (list_in told_by.commitments t) k ≡ Some v
   row = let z = update_accepted.1 in (history_lists told_by.commitments t).values k (omega arith) ∙ assigned
 
 -- It is looked up, and listed where the list has room.
@@ -86,14 +85,14 @@ module _ {room : ℕ → Type 0} {ds : List Deed} {since : ℕ} {x : Cells} (n k
   abbrev rows : List Row
   rows = list_in (history (Did (Commit n t) ∷ Did (Update n k (Assign v)) ∷ ds)).commitments t
 
-  pub a_committed_assign_is_looked_up : shaped_reply x.head keys values journal (lookup_decided k t) ≡ accepted (Present v)
+  pub a_committed_assign_is_looked_up : shaped_reply x.head keys values journal (lookup_decided k t) ≡ accepted (Some v)
   a_committed_assign_is_looked_up =
       let ok = accepted_is_lawful r in
       looks_up_the_history r keys values journal l k t ∙ rw (answered n k v t ok, assigned n k v t ok)
 
   pub a_committed_assign_is_listed : (listed contents : List ℕ) → length listed ≡ length contents → length rows ≤ length listed
       → (a : Reply) (listed' contents' : List ℕ) → ListedBy x.head keys values journal t listed contents a listed' contents'
-      → Shows rows 0 listed contents a listed' contents' × (row_value rows k ≡ Present v)
+      → Shows rows 0 listed contents a listed' contents' × (row_value rows k ≡ Some v)
   a_committed_assign_is_listed listed contents p fits a listed' contents' w =
       let ok = accepted_is_lawful r in
       let y = timely n k v t ok in
@@ -104,14 +103,14 @@ module _ {ds : List Deed} {m : MapCells} (n k v t : ℕ) (r : MapReached (Did (C
   abbrev map_rows : List Row
   map_rows = list_in (history (Did (Commit n t) ∷ Did (Update n k (Assign v)) ∷ ds)).commitments t
 
-  pub the_map_looks_up_a_committed_assign : lookup_reply k t m.head cs ≡ accepted (Present v)
+  pub the_map_looks_up_a_committed_assign : lookup_reply k t m.head cs ≡ accepted (Some v)
   the_map_looks_up_a_committed_assign =
       let ok = map_accepted_is_lawful r in
       map_looks_up_the_history r cs l k t ∙ rw (answered n k v t ok, assigned n k v t ok)
 
   pub the_map_lists_a_committed_assign : (listed contents : List ℕ) → length listed ≡ length contents → length map_rows ≤ length listed
       → (a : Reply) (listed' contents' : List ℕ) → ListedAt t m.head cs listed contents a listed' contents'
-      → Shows map_rows 0 listed contents a listed' contents' × (row_value map_rows k ≡ Present v)
+      → Shows map_rows 0 listed contents a listed' contents' × (row_value map_rows k ≡ Some v)
   the_map_lists_a_committed_assign listed contents p fits a listed' contents' w =
       let ok = map_accepted_is_lawful r in
       let y = timely n k v t ok in

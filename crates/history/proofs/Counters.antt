@@ -1,11 +1,10 @@
 -- Two writers of one counter, over any sequence and for both stores: neither is refused because of the other, every later value has both totals, and an
 -- assign still conflicts. Assumes nothing.
-use Rattle.std.specs.Prelude.{◌≡◌, refl, Bool, true, false, cond, not, ◌&&◌, List, [], ◌∷◌, ◌++◌, ◌≢◌, ℕ, ◌+◌, ◌%◌, ◌^◌, ◌<◌, ◌≤◌, max, eqb, leb, ltb, length}
+use Rattle.std.specs.Prelude.{◌≡◌, refl, Bool, true, false, cond, not, ◌&&◌, List, [], ◌∷◌, ◌++◌, ◌≢◌, ℕ, ◌+◌, ◌%◌, ◌^◌, ◌<◌, ◌≤◌, max, eqb, leb, ltb, length, Some, None}
 use Rattle.std.proofs.Common.{sym, ap, ◌∙◌, add_assoc, zero-add, arith, eqb-true, ne_eqb, le-leb, le-ltb, lt-ltb, leb-true, leb-false, ltb-true}
 use Rattle.std.proofs.lemmas.Bool.{false≢true, lt-leb}
 use Rattle.std.proofs.Math.Nat.{mod-add-mod}
-use Rattle.rules.specs.declared.Value.{Value}
-use Rattle.rules.specs.declared.Value.TheVariants.{Absent, Present}
+use Rattle.rules.specs.Value.{Value}
 use Rattle.rules.specs.declared.Effect.{Effect}
 use Rattle.rules.specs.declared.Effect.TheVariants.{Assign, Add}
 use Rattle.rules.specs.Effects.{or_zero, applied}
@@ -219,7 +218,7 @@ module _ (k : ℕ) where
   sum : (v x y : ℕ) → raised_by (raised_by v x) y ≡ raised_by v (x + y)
   sum v x y = mod-add-mod (v + x) (2 ^ 32) y ∙ ap (λ (n : ℕ). n % 2 ^ 32) (add_assoc v x y)
 
-  adds_up : (cs : List Change) (v : Value) → changes k cs ≡ true → only_adds k cs ≡ true → making k cs v ≡ Present (raised_by (or_zero v) (total k cs))
+  adds_up : (cs : List Change) (v : Value) → changes k cs ≡ true → only_adds k cs ≡ true → making k cs v ≡ Some (raised_by (or_zero v) (total k cs))
   adds_up [] v h o = not_both false h refl
   adds_up (c ∷ cs) v h o =
       let rest = and_right (cond (eqb c.key k) (increases c.effect) true) (only_adds k cs) o in
@@ -228,13 +227,13 @@ module _ (k : ℕ) where
       let more : increases c.effect ≡ true = rw e at (and_left (cond (eqb c.key k) (increases c.effect) true) (only_adds k cs) o) in
       rw (e, added c.effect more (making k cs v))
       (split (changes k cs)
-      (λ x. rw (adds_up cs v x rest) (ap Present (sum (or_zero v) (total k cs) (added_by c.effect))))
+      (λ x. rw (adds_up cs v x rest) (ap Some (sum (or_zero v) (total k cs) (added_by c.effect))))
       (λ x.
       let u = unchanged cs v x in
-      rw (u.0, u.1) (ap (λ (n : ℕ). Present (raised_by (or_zero v) n)) (sym (zero-add (added_by c.effect)))))))
+      rw (u.0, u.1) (ap (λ (n : ℕ). Some (raised_by (or_zero v) n)) (sym (zero-add (added_by c.effect)))))))
       (λ e. rw e (adds_up cs v (rw e at h) rest))
     where
-      added : (e : Effect) → increases e ≡ true → (w : Value) → applied e w ≡ Present (raised_by (or_zero w) (added_by e))
+      added : (e : Effect) → increases e ≡ true → (w : Value) → applied e w ≡ Some (raised_by (or_zero w) (added_by e))
       added (Assign x) h w = not_both false h refl
       added (Add x) h w = refl
 
@@ -275,7 +274,7 @@ module _ (k : ℕ) where
       → Falls (newer ++ second ∷ (between ++ first ∷ older)) → (u t : ℕ) → u < first.time → second.time ≤ t
       → written_between newer u t k ≡ false → written_between between u t k ≡ false → written_between older u t k ≡ false → Raises k first → Raises k second
       → value_in (newer ++ second ∷ (between ++ first ∷ older)) t k
-      ≡ Present (raised_by (or_zero (value_in (newer ++ second ∷ (between ++ first ∷ older)) u k)) (total k first.changes + total k second.changes))
+      ≡ Some (raised_by (or_zero (value_in (newer ++ second ∷ (between ++ first ∷ older)) u k)) (total k first.changes + total k second.changes))
   both_totals newer second between first older fall u t l m quiet calm still f s =
       let inner = below newer fall in
       let order : first.time < second.time = omega (arith, inner.0, latest_in between first older) in
@@ -298,7 +297,7 @@ module _ (k : ℕ) where
         le-leb first.time t (omega (arith, order)),
         adds_up first.changes (value_in older t k) f.0 f.1,
       )
-      (adds_up second.changes _ s.0 s.1 ∙ ap Present (sum (or_zero (value_in older t k)) (total k first.changes) (total k second.changes)))
+      (adds_up second.changes _ s.0 s.1 ∙ ap Some (sum (or_zero (value_in older t k)) (total k first.changes) (total k second.changes)))
     where
       below : (newer : List Commitment) → Falls (newer ++ second ∷ (between ++ first ∷ older))
           → (latest 0 (between ++ first ∷ older) < second.time) × Falls (between ++ first ∷ older)
@@ -349,7 +348,7 @@ both_in : (newer : List Commitment) (second : Commitment) (between : List Commit
     → (history ds).commitments ≡ newer ++ second ∷ (between ++ first ∷ older) → (k u t : ℕ) → u < first.time → second.time ≤ t
     → written_between newer u t k ≡ false → written_between between u t k ≡ false → written_between older u t k ≡ false → Raises k first → Raises k second
     → value_in (history ds).commitments t k
-    ≡ Present (raised_by (or_zero (value_in (history ds).commitments u k)) (total k first.changes + total k second.changes))
+    ≡ Some (raised_by (or_zero (value_in (history ds).commitments u k)) (total k first.changes + total k second.changes))
 both_in newer second between first older ds ok e k u t p q quiet calm still f s =
     rw e (both_totals k newer second between first older (rw e at (falls ok)) u t p q quiet calm still f s)
 
@@ -381,7 +380,7 @@ module _ {room : ℕ → Type 0} {ds : List Deed} {since : ℕ} {x : Cells} (r :
       → (history ds).low ≤ t → t ≤ last_in (history ds) → written_between newer u t k ≡ false → written_between between u t k ≡ false
       → written_between older u t k ≡ false → Raises k first → Raises k second
       → shaped_reply x.head keys values journal (lookup_decided k t)
-      ≡ accepted (Present (raised_by (or_zero (value_in (history ds).commitments u k)) (total k first.changes + total k second.changes)))
+      ≡ accepted (Some (raised_by (or_zero (value_in (history ds).commitments u k)) (total k first.changes + total k second.changes)))
   both_totals_are_looked_up newer second between first older e k u t i p q from upto quiet calm still f s =
       let v = both_in newer second between first older ds (accepted_is_lawful r) e k u t p q quiet calm still f s in
       looks_up_the_history r keys values journal l k t ∙ rw (v, ne_eqb k 0 (omega arith), le-ltb t (history ds).low from, le-ltb (last_in (history ds)) t upto)
@@ -394,7 +393,7 @@ module _ {room : ℕ → Type 0} {ds : List Deed} {since : ℕ} {x : Cells} (r :
       → (a : Reply) (listed' contents' : List ℕ) → ListedBy x.head keys values journal t listed contents a listed' contents'
       → Shows (list_in (history ds).commitments t) 0 listed contents a listed' contents'
       × (row_value (list_in (history ds).commitments t) k
-      ≡ Present (raised_by (or_zero (value_in (history ds).commitments u k)) (total k first.changes + total k second.changes)))
+      ≡ Some (raised_by (or_zero (value_in (history ds).commitments u k)) (total k first.changes + total k second.changes)))
   both_totals_are_listed newer second between first older e k u t i p q from upto quiet calm still f s listed contents paired fits a listed' contents' w = (
     journal_lists_the_history r keys values journal l t from upto listed contents paired fits a listed' contents' w,
     (history_lists (history ds).commitments t).values k i ∙ both_in newer second between first older ds (accepted_is_lawful r) e k u t p q quiet calm still f s,
@@ -406,18 +405,18 @@ module _ {room : ℕ → Type 0} {ds : List Deed} {since : ℕ} {x : Cells} (n m
     (keys values journal : List ℕ) (l : Lent x (end x) keys values journal) (d : n ≢ m)
     (h : ShareCounters (changes_of n (history ds).runners) (changes_of m (history ds).runners)) (a : Reply) (head : Head) (journal' : List ℕ)
     (w : Wrote (Commit n t) x.head keys values journal a head journal') where
-  answer_is : a ≡ told (with_room (refusal_in (Did (Commit n t)) (history (Did (Commit m u) ∷ ds))) (x.head.journal.used + 1) (room_of (length journal))) Absent
+  answer_is : a ≡ told (with_room (refusal_in (Did (Commit n t)) (history (Did (Commit m u) ∷ ds))) (x.head.journal.used + 1) (room_of (length journal))) None
   answer_is = calls_answer r keys values journal l (Commit n t) a head journal' w
 
   pub a_counter_is_shared : a.number ≡ 11 → refusal_in (Did (Commit n t)) (history ds) ≡ 11
   a_counter_is_shared = not_to_blame ds n m t u d h (x.head.journal.used + 1) (room_of (length journal)) a.number (ap (λ (q : Reply). q.number) answer_is)
 
   pub both_commit : among n (numbers (history ds).runners) ≡ true → conflicts_with (history ds).commitments n (history ds).runners ≡ false
-      → last_in (history ds) < t → u < t → a.number ≢ 12 → a ≡ accepted Absent
+      → last_in (history ds) < t → u < t → a.number ≢ 12 → a ≡ accepted None
   both_commit runs_on clear later after no_room =
       let number_is = ap (λ (q : Reply). q.number) answer_is in
       let z = both_accepted ds n m t u d h (x.head.journal.used + 1) (room_of (length journal)) a.number number_is runs_on clear later after no_room in
-      answer_is ∙ ap (λ (i : ℕ). told i Absent) (sym number_is ∙ z)
+      answer_is ∙ ap (λ (i : ℕ). told i None) (sym number_is ∙ z)
 
 -- THE MAP STORE
 module _ {ds : List Deed} {x : MapCells} (r : MapReached ds x) (cs : Columns) (l : MapLent x cs) where
@@ -446,7 +445,7 @@ module _ {ds : List Deed} {x : MapCells} (r : MapReached ds x) (cs : Columns) (l
       → (history ds).low ≤ t → t ≤ last_in (history ds) → written_between newer u t k ≡ false → written_between between u t k ≡ false
       → written_between older u t k ≡ false → Raises k first → Raises k second
       → lookup_reply k t x.head cs
-      ≡ accepted (Present (raised_by (or_zero (value_in (history ds).commitments u k)) (total k first.changes + total k second.changes)))
+      ≡ accepted (Some (raised_by (or_zero (value_in (history ds).commitments u k)) (total k first.changes + total k second.changes)))
   map_both_totals_are_looked_up newer second between first older e k u t i p q from upto quiet calm still f s =
       let v = both_in newer second between first older ds (map_accepted_is_lawful r) e k u t p q quiet calm still f s in
       map_looks_up_the_history r cs l k t ∙ rw (v, ne_eqb k 0 (omega arith), le-ltb t (history ds).low from, le-ltb (last_in (history ds)) t upto)
@@ -459,7 +458,7 @@ module _ {ds : List Deed} {x : MapCells} (r : MapReached ds x) (cs : Columns) (l
       → (a : Reply) (listed' contents' : List ℕ) → ListedAt t x.head cs listed contents a listed' contents'
       → Shows (list_in (history ds).commitments t) 0 listed contents a listed' contents'
       × (row_value (list_in (history ds).commitments t) k
-      ≡ Present (raised_by (or_zero (value_in (history ds).commitments u k)) (total k first.changes + total k second.changes)))
+      ≡ Some (raised_by (or_zero (value_in (history ds).commitments u k)) (total k first.changes + total k second.changes)))
   map_both_totals_are_listed newer second between first older e k u t i p q from upto quiet calm still f s listed contents paired fits a listed' contents' w = (
     map_lists r cs l t from upto listed contents paired fits a listed' contents' w,
     (history_lists (history ds).commitments t).values k i ∙ both_in newer second between first older ds (map_accepted_is_lawful r) e k u t p q quiet calm still f s,
@@ -471,15 +470,15 @@ module _ {ds : List Deed} {x : MapCells} (n m t u : ℕ) (r : MapReached (Did (C
   abbrev rows_wanted : ℕ
   rows_wanted = x.head.used + length (distinct_keys (changes_of n (history (Did (Commit m u) ∷ ds)).runners))
 
-  map_answer_is : a ≡ told (with_room (refusal_in (Did (Commit n t)) (history (Did (Commit m u) ∷ ds))) rows_wanted (shape.room_of (length cs.keys))) Absent
+  map_answer_is : a ≡ told (with_room (refusal_in (Did (Commit n t)) (history (Did (Commit m u) ∷ ds))) rows_wanted (shape.room_of (length cs.keys))) None
   map_answer_is = map_answers r cs l a head w
 
   pub a_map_counter_is_shared : a.number ≡ 11 → refusal_in (Did (Commit n t)) (history ds) ≡ 11
   a_map_counter_is_shared = not_to_blame ds n m t u d h rows_wanted (shape.room_of (length cs.keys)) a.number (ap (λ (q : Reply). q.number) map_answer_is)
 
   pub both_commit_in_the_map : among n (numbers (history ds).runners) ≡ true → conflicts_with (history ds).commitments n (history ds).runners ≡ false
-      → last_in (history ds) < t → u < t → a.number ≢ 12 → a ≡ accepted Absent
+      → last_in (history ds) < t → u < t → a.number ≢ 12 → a ≡ accepted None
   both_commit_in_the_map runs_on clear later after no_room =
       let number_is = ap (λ (q : Reply). q.number) map_answer_is in
       let z = both_accepted ds n m t u d h rows_wanted (shape.room_of (length cs.keys)) a.number number_is runs_on clear later after no_room in
-      map_answer_is ∙ ap (λ (i : ℕ). told i Absent) (sym number_is ∙ z)
+      map_answer_is ∙ ap (λ (i : ℕ). told i None) (sym number_is ∙ z)

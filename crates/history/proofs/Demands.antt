@@ -1,10 +1,9 @@
 -- The demands on the journal store, over any sequence of calls, checkpoints and restarts from an empty store, with whatever room is lent to each,
 -- refused calls included (Cells). The answers are those that the calls' contracts give on the lent cells; what they are held to is the history of
 -- the accepted calls, as if no checkpoint had been taken (History, Refusals). Assumes nothing.
-use Rattle.std.specs.Prelude.{◌≡◌, refl, Bool, cond, not, List, ℕ, ◌≤◌, eqb, leb, ltb, length}
+use Rattle.std.specs.Prelude.{◌≡◌, refl, Bool, cond, not, List, ℕ, ◌≤◌, eqb, leb, ltb, length, Some, None}
 use Rattle.std.proofs.Common.{ap, sym, ◌∙◌, arith, eqb-true, eq-eqb, le-leb, le-ltb, ltb-false}
 use Rattle.std.proofs.lemmas.Bool.{not-false, eqb-false}
-use Rattle.rules.specs.declared.Value.TheVariants.{Absent, Present}
 use Rattle.rules.specs.Bools.{split}
 use Rattle.rules.specs.Passed.{passed, fitting}
 use Rattle.rules.specs.Running.{running_runs}
@@ -75,7 +74,7 @@ module _ {room : ℕ → Type 0} {ds : List Deed} {since : ℕ} {x : Cells} (r :
   needed (Commit n t) = refl
 
   given : (c : Call) → gives c (meaning_of x) ≡ gives_in c (history ds)
-  given (Begin t) = ap Present (next_same (course_of ds since x) (tie r))
+  given (Begin t) = ap Some (next_same (course_of ds since x) (tie r))
   given (Update n k e) = refl
   given (Abort n) = refl
   given (Commit n t) = refl
@@ -119,7 +118,7 @@ module _ {room : ℕ → Type 0} {ds : List Deed} {since : ℕ} {x : Cells} (r :
     pub every_listing : (t : ℕ) → (history ds).low ≤ t → t ≤ last_in (history ds) → (listed contents : List ℕ) → length listed ≡ length contents
         → length (list_in (history ds).commitments t) ≤ length listed → (a : Reply) (listed' contents' : List ℕ)
         → ListedBy x.head keys values journal t listed contents a listed' contents'
-        → (n : ℕ) × (a ≡ accepted (Present n)) × Registers (history ds).commitments t n listed' contents'
+        → (n : ℕ) × (a ≡ accepted (Some n)) × Registers (history ds).commitments t n listed' contents'
     every_listing t old new listed contents p fits a listed' contents' w =
         shown_registers (history ds).commitments t listed contents p fits a listed' contents'
         (journal_lists_the_history t old new listed contents p fits a listed' contents' w)
@@ -178,5 +177,5 @@ module _ {room : ℕ → Type 0} {ds : List Deed} {since : ℕ} {x : Cells} (r :
 
     pub checkpoint_answers : (T : ℕ) (a : Reply) (head : Head) (keys' values' journal' : List ℕ)
         → checkpoint.Checkpointed T x.head keys values journal a head keys' values' journal'
-        → a ≡ told (with_room (refusal_in (Checkpointed T) (history ds)) (length (list_in (history ds).commitments T)) (row_room (length keys))) Absent
-    checkpoint_answers T a head keys' values' journal' w = w.reply ∙ ap (λ (n : ℕ). told n Absent) (checkpoint_number_lem T)
+        → a ≡ told (with_room (refusal_in (Checkpointed T) (history ds)) (length (list_in (history ds).commitments T)) (row_room (length keys))) None
+    checkpoint_answers T a head keys' values' journal' w = w.reply ∙ ap (λ (n : ℕ). told n None) (checkpoint_number_lem T)

@@ -1,13 +1,12 @@
 -- ENDING IS POSSIBLE. Rule 3.11 on the cells that the contracts speak of: where every call that writes a record is lent a journal of the same length,
 -- a running transaction can always be ended by abort, and abort and commit never get 12. Assumes nothing.
-use Rattle.std.specs.Prelude.{◌≡◌, true, List, ◌≢◌, ℕ, ◌+◌, ◌≤◌, eqb, leb, length}
+use Rattle.std.specs.Prelude.{◌≡◌, true, List, ◌≢◌, ℕ, ◌+◌, ◌≤◌, eqb, leb, length, None}
 use Rattle.std.proofs.Common.{ap, sym, ◌∙◌, arith, eqb-true, le-leb}
 use Rattle.rules.specs.Bools.{split}
 use Rattle.rules.specs.Lists.{among}
 use Rattle.rules.specs.Running.{running_runs}
 use Rattle.rules.proofs.RoomLaws.{fewer}
 use Rattle.rules.specs.Calls.{Store, last_of, runs_in, conflict_in, Call, Abort, Commit, refusal, answer}
-use Rattle.rules.specs.declared.Value.TheVariants.{Absent}
 use Rattle.answer.specs.Reply.{Reply, accepted, told}
 use Rattle.journal_store.specs.declared.Head.{Head}
 use Rattle.journal_store.specs.Shape.{room_of}
@@ -53,10 +52,10 @@ module _ (bytes : ℕ) {ds : List Deed} {since : ℕ} {x : Cells} (r : Reached (
 
   -- Abort of a running transaction is accepted.
   pub ending_is_possible : (n : ℕ) → among n (numbers (history ds).runners) ≡ true → (a : Reply) (head : Head) (journal' : List ℕ)
-      → Wrote (Abort n) x.head keys values journal a head journal' → a ≡ accepted Absent
+      → Wrote (Abort n) x.head keys values journal a head journal' → a ≡ accepted None
   ending_is_possible n u a head journal' w =
       w.reply
-      ∙ ap (λ (i : ℕ). told i Absent) (meant_number (Abort n) ∙ aborts n (sym (running_runs n (meaning_of x).records) ∙ rw (running_is r) u))
+      ∙ ap (λ (i : ℕ). told i None) (meant_number (Abort n) ∙ aborts n (sym (running_runs n (meaning_of x).records) ∙ rw (running_is r) u))
 
   -- Abort and commit never get 12.
   pub abort_never_12 : (n : ℕ) (a : Reply) (head : Head) (journal' : List ℕ) → Wrote (Abort n) x.head keys values journal a head journal' → a.number ≢ 12

@@ -1,8 +1,7 @@
 -- What lent cells of a store that calls reach mean, and what its answers are then. Assumes nothing.
-use Rattle.std.specs.Prelude.{◌≡◌, refl, Bool, true, cond, List, ◌++◌, ℕ, eqb, length, drop}
+use Rattle.std.specs.Prelude.{◌≡◌, refl, Bool, true, cond, List, ◌++◌, ℕ, eqb, length, drop, Some, None}
 use Rattle.std.proofs.Common.{ap, sym, ◌∙◌, eqb-true}
-use Rattle.rules.specs.declared.Value.{Value}
-use Rattle.rules.specs.declared.Value.TheVariants.{Absent, Present}
+use Rattle.rules.specs.Value.{Value}
 use Rattle.rules.specs.Bools.{split}
 use Rattle.rules.specs.Values.{Row}
 use Rattle.rules.specs.Lists.{row_keys}
@@ -21,7 +20,7 @@ told_same n m v w e f =
     ap (λ (i : ℕ). told i v) e
     ∙ split (eqb m 0)
     (λ z. ap (told m) (f (e ∙ eqb-true m 0 z)))
-    (λ z. ap (λ (b : Bool). record { number = m; value = cond b v Absent }) z ∙ sym (ap (λ (b : Bool). record { number = m; value = cond b w Absent }) z))
+    (λ z. ap (λ (b : Bool). record { number = m; value = cond b v None }) z ∙ sym (ap (λ (b : Bool). record { number = m; value = cond b w None }) z))
 
 -- cells after a call whose number is the same, and which are the same where it is accepted
 pub after_same : {A : Type 0} (n m : ℕ) (new new' old : A) → n ≡ m → (n ≡ 0 → new ≡ new') → after n new old ≡ after m new' old
@@ -36,7 +35,7 @@ pub shows_same : (rows rows' : List Row) (n m : ℕ) (listed contents : List ℕ
     → Shows rows n listed contents a listed' contents' → Shows rows' m listed contents a listed' contents'
 shows_same rows rows' n m listed contents a listed' contents' e f s =
     record {
-      reply = s.reply ∙ told_same n m (Present (length rows)) (Present (length rows')) e (λ z. ap (λ (l : List Row). Present (length l)) (f z));
+      reply = s.reply ∙ told_same n m (Some (length rows)) (Some (length rows')) e (λ z. ap (λ (l : List Row). Some (length l)) (f z));
       keys_column =
           s.keys_column
           ∙ after_same n m (row_keys rows ++ drop (length rows) listed) (row_keys rows' ++ drop (length rows') listed) listed e

@@ -1,8 +1,7 @@
 -- The history's list at a time has exactly the registers that were written by transactions committed at or before it, with their values. Assumes nothing.
-use Rattle.std.specs.Prelude.{◌≡◌, refl, true, false, ◌||◌, List, [], ◌∷◌, ℕ, eqb, leb}
+use Rattle.std.specs.Prelude.{◌≡◌, refl, true, false, ◌||◌, List, [], ◌∷◌, ℕ, eqb, leb, Some, None}
 use Rattle.std.proofs.Common.{◌∙◌, true≢false}
-use Rattle.rules.specs.declared.Value.{Value}
-use Rattle.rules.specs.declared.Value.TheVariants.{Absent, Present}
+use Rattle.rules.specs.Value.{Value}
 use Rattle.rules.specs.declared.Effect.{Effect}
 use Rattle.rules.specs.declared.Effect.TheVariants.{Assign, Add}
 use Rattle.rules.specs.Effects.{applied}
@@ -42,9 +41,9 @@ unwritten (c ∷ cs) t k h =
       unwritten cs t k (or_none_right (changes k c.changes) (among k (committed_keys cs)) both),
     )
 
-absent : (v : Value) → is_present v ≡ false → v ≡ Absent
-absent Absent e = refl
-absent (Present v) e = absurd (true≢false e)
+absent : (v : Value) → is_present v ≡ false → v ≡ None
+absent None e = refl
+absent (Some v) e = absurd (true≢false e)
 
 -- the history's list is the list of its values
 pub history_lists : (cs : List Commitment) (t : ℕ) → Lists (value_in cs t) (list_in cs t)

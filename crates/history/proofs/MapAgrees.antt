@@ -1,12 +1,11 @@
 -- The map store agrees with the whole journal of the same deeds: each place tells of its transaction what the journal does, versions give the same
 -- values and the same conflicts. Assumes nothing.
-use Rattle.std.specs.Prelude.{◌≡◌, refl, Bool, ◌&&◌, true, false, cond, not, List, [], ◌∷◌, ℕ, ◌+◌, ◌<◌, ◌≤◌, eqb, length}
+use Rattle.std.specs.Prelude.{◌≡◌, refl, Bool, ◌&&◌, true, false, cond, not, List, [], ◌∷◌, ℕ, ◌+◌, ◌<◌, ◌≤◌, eqb, length, None}
 use Rattle.std.proofs.Common.{ap, ap₂, sym, ◌∙◌, subst, arith, eqb-true, eq-eqb}
 use Rattle.std.proofs.lemmas.Bool.{not-true}
 use Rattle.rules.specs.Limits.{most_running, numbers_end}
 use Rattle.rules.specs.declared.Record.{Record}
-use Rattle.rules.specs.declared.Value.{Value}
-use Rattle.rules.specs.declared.Value.TheVariants.{Absent}
+use Rattle.rules.specs.Value.{Value}
 use Rattle.rules.specs.Kinds.{is_begin, is_assign, is_update, is_commit, is_end, begun, committed, aborted}
 use Rattle.rules.specs.Effects.{is_add, effect_of, writes, effects}
 use Rattle.rules.specs.Transactions.{any, of, runs, snapshot, wrote, keys_written, running}
@@ -48,7 +47,7 @@ pub record Agree (m : MapStore) (low : ℕ) (all : List Record) : Type 0 where
   pub single : once m.places ≡ true
   pub eight : length m.places ≡ most_running
   pub count : occupied m.places ≡ length (running all)
-  pub values : (k t : ℕ) → 1 ≤ k → low ≤ t → versions.value_at k t m.versions ≡ value Absent k t all
+  pub values : (k t : ℕ) → 1 ≤ k → low ≤ t → versions.value_at k t m.versions ≡ value None k t all
   pub touches : (s k : ℕ) (adds : Bool) → low ≤ s → later s k adds m.versions ≡ touched all s (facing k adds) all
   pub orders : ordered m.last m.versions ≡ true
 
@@ -144,7 +143,7 @@ module _ (m : MapStore) (low : ℕ) (all : List Record) (h : Agree m low all) (g
 
   -- an end frees the place of its transaction; what it does to last and the versions is given
   agree_end : (r : Record) → runs r.transaction all ≡ true → is_begin r ≡ false → is_end r ≡ true → (l : ℕ) (vs : List Version) → l ≡ last low (r ∷ all)
-      → ((k t : ℕ) → 1 ≤ k → low ≤ t → versions.value_at k t vs ≡ value Absent k t (r ∷ all))
+      → ((k t : ℕ) → 1 ≤ k → low ≤ t → versions.value_at k t vs ≡ value None k t (r ∷ all))
       → ((s k : ℕ) (adds : Bool) → low ≤ s → later s k adds vs ≡ touched (r ∷ all) s (facing k adds) (r ∷ all)) → ordered l vs ≡ true
       → Agree (record { low = m.low; last = l; next = m.next; places = amend r.transaction free m.places; versions = vs }) low (r ∷ all)
   agree_end r runner hb he l vs lasts values touches orders =
@@ -194,7 +193,7 @@ module _ (m : MapStore) (low : ℕ) (all : List Record) (h : Agree m low all) (g
             let each = adds_written (λ k. only_added k (of n all)) rows (of n all) keys a in
             rw (firsts_written rows (of n all) keys)
             (agree_end (committed n t) runner refl refl t _ (omega arith)
-            (λ k x i l. rw (value_stamp k x t m.last rows m.versions h.orders lt, h.values k x i l, f k (value Absent k x all)))
+            (λ k x i l. rw (value_stamp k x t m.last rows m.versions h.orders lt, h.values k x i l, f k (value None k x all)))
             (λ x k adds l.
             rw (
               later_stamp held x k adds t rows m.versions,

@@ -1,14 +1,13 @@
 -- The demands on the map store by itself, over any sequence of its calls and checkpoints from an empty store, with whatever room is lent to each, refused
 -- calls included (MapCells): it answers as the history of its accepted calls does. So a journal store that accepted the same calls answers alike, number
 -- for number and row for row. Assumes nothing.
-use Rattle.std.specs.Prelude.{◌≡◌, refl, Bool, true, false, cond, not, List, ◌∷◌, ◌≢◌, ℕ, ◌+◌, ◌≤◌, eqb, leb, length}
+use Rattle.std.specs.Prelude.{◌≡◌, refl, Bool, true, false, cond, not, List, ◌∷◌, ◌≢◌, ℕ, ◌+◌, ◌≤◌, eqb, leb, length, Some, None}
 use Rattle.std.proofs.Common.{ap, sym, ◌∙◌, subst, arith, eqb-true, eq-eqb}
 use Rattle.std.proofs.lemmas.Bool.{not-false, eqb-false}
 use Rattle.rules.specs.Bools.{split}
 use Rattle.rules.specs.Lists.{among}
 use Rattle.rules.specs.Passed.{passed, fitting}
 use Rattle.rules.specs.Calls.{Call, Begin, Update, Abort, Commit, with_room}
-use Rattle.rules.specs.declared.Value.TheVariants.{Absent, Present}
 use Rattle.answer.specs.Reply.{Reply, accepted, told, after}
 use Rattle.slot.specs.Places.{Place, free, taken, place_of}
 use Rattle.versions.specs.Versions.{Columns}
@@ -91,7 +90,7 @@ module _ {ds : List Deed} {m : MapCells} (r : MapReached ds m) (cs : Columns) (l
   pub map_every_listing : (t : ℕ) → (history ds).low ≤ t → t ≤ last_in (history ds) → (listed contents : List ℕ) → length listed ≡ length contents
       → length (list_in (history ds).commitments t) ≤ length listed → (a : Reply) (listed' contents' : List ℕ)
       → ListedAt t m.head cs listed contents a listed' contents'
-      → (n : ℕ) × (a ≡ accepted (Present n)) × Registers (history ds).commitments t n listed' contents'
+      → (n : ℕ) × (a ≡ accepted (Some n)) × Registers (history ds).commitments t n listed' contents'
   map_every_listing t old new listed contents p fits a listed' contents' w =
       shown_registers (history ds).commitments t listed contents p fits a listed' contents'
       (map_lists t old new listed contents p fits a listed' contents' w)
@@ -232,4 +231,4 @@ module _ {room : ℕ → Type 0} {ds : List Deed} {since : ℕ} {x : Cells} (j :
       let p = checkpoint_answers j keys values journal b T a head keys' values' journal' u in
       let q = map_answers r cs l a' head' v in
       let e = but_for_room (refusal_in (Checkpointed T) h) (length (list_in h.commitments T)) (row_room (length keys)) (λ z. one (ap (λ (i : Reply). i.number) p ∙ z)) in
-      p ∙ ap (λ (n : ℕ). told n Absent) e ∙ sym q
+      p ∙ ap (λ (n : ℕ). told n None) e ∙ sym q

@@ -1,7 +1,6 @@
 -- The map store of lawful deeds, on what it means, answers as their history does. MapDemands says it of the lent cells. Assumes nothing.
-use Rattle.std.specs.Prelude.{◌≡◌, refl, true, List, ℕ, ◌≤◌, length, ltb}
+use Rattle.std.specs.Prelude.{◌≡◌, refl, true, List, ℕ, ◌≤◌, length, ltb, Some}
 use Rattle.std.proofs.Common.{ap, sym, ◌∙◌, arith, ltb-false}
-use Rattle.rules.specs.declared.Value.TheVariants.{Present}
 use Rattle.rules.specs.Passed.{passed}
 use Rattle.rules.specs.Bools.{not_both}
 use Rattle.rules.specs.Transactions.{of, keys_written}
@@ -36,7 +35,7 @@ module _ {ds : List Deed} (ok : Lawful ds) where
   map_last = (agree ok).lasts ∙ last_told (whole ds).low (whole ds).records ∙ rw ((tells ok).lows, (tells ok).commits)
 
   pub map_gives : (c : Call) → map.gives c (mapped ds) ≡ gives_in c (history ds)
-  map_gives (Begin t) = ap Present ((agree ok).nexts ∙ sym (tells ok).nexts)
+  map_gives (Begin t) = ap Some ((agree ok).nexts ∙ sym (tells ok).nexts)
   map_gives (Update n k e) = refl
   map_gives (Abort n) = refl
   map_gives (Commit n t) = refl

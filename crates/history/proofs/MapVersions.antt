@@ -6,7 +6,7 @@ use Rattle.rules.specs.declared.Effect.{Effect}
 use Rattle.rules.specs.declared.Effect.TheVariants.{Assign, Add}
 use Rattle.rules.specs.Effects.{is_add, mark_of}
 use Rattle.rules.specs.EffectLaws.{applied_shown}
-use Rattle.rules.specs.declared.Value.{Value}
+use Rattle.rules.specs.Value.{Value}
 use Rattle.rules.specs.Bools.{split, and_left, and_right, and_false}
 use Rattle.slot.specs.Places.{Note, has_key, makes}
 use Rattle.slot.specs.RowLaws.{makes_none}

@@ -1,8 +1,7 @@
 -- Section 8: the eleven marked examples, from figure 7 (b) and (c) with x as key 1 and y as key 2, as one table under one claim. An example is its calls on
 -- two empty stores, a lookup, and what it gives; the claim has what each store answers to the lookup, shape test and all, behind the calls on lent cells.
 -- What the calls make of the cells is what their contracts say (`called_on_lem`, `noted_by`, `versioned_by`). Assumes nothing.
-use Rattle.std.specs.Prelude.{◌≡◌, refl, List, [], ◌∷◌, ℕ, eqb, replicate}
-use Rattle.rules.specs.declared.Value.TheVariants.{Absent, Present}
+use Rattle.std.specs.Prelude.{◌≡◌, refl, List, [], ◌∷◌, ℕ, eqb, replicate, Some, None}
 use Rattle.rules.specs.declared.Effect.TheVariants.{Assign, Add}
 use Rattle.rules.specs.Calls.{Call, Begin, Update, Abort, Commit, record_of, gives}
 use Rattle.rules.specs.Bools.{split}
@@ -113,17 +112,17 @@ pub record Example : Type 0 where
 
 abbrev pub table : List Example
 table =
-    record { calls = figure; key = 1; time = 0; gives = accepted Absent }
-    ∷ record { calls = figure; key = 1; time = 1; gives = accepted (Present 0) }
-    ∷ record { calls = figure; key = 1; time = 2; gives = accepted (Present 0) }
-    ∷ record { calls = figure; key = 1; time = 3; gives = accepted (Present 4) }
-    ∷ record { calls = figure; key = 1; time = 4; gives = accepted (Present 5) }
-    ∷ record { calls = figure; key = 1; time = 5; gives = accepted (Present 2) }
-    ∷ record { calls = figure; key = 1; time = 6; gives = accepted (Present 4) }
-    ∷ record { calls = figure; key = 2; time = 1; gives = accepted Absent }
-    ∷ record { calls = figure; key = 2; time = 3; gives = accepted (Present 0) }
-    ∷ record { calls = figure; key = 2; time = 7; gives = record { number = 5; value = Absent } }
-    ∷ record { calls = full; key = 1; time = 2; gives = accepted (Present 0) }
+    record { calls = figure; key = 1; time = 0; gives = accepted None }
+    ∷ record { calls = figure; key = 1; time = 1; gives = accepted (Some 0) }
+    ∷ record { calls = figure; key = 1; time = 2; gives = accepted (Some 0) }
+    ∷ record { calls = figure; key = 1; time = 3; gives = accepted (Some 4) }
+    ∷ record { calls = figure; key = 1; time = 4; gives = accepted (Some 5) }
+    ∷ record { calls = figure; key = 1; time = 5; gives = accepted (Some 2) }
+    ∷ record { calls = figure; key = 1; time = 6; gives = accepted (Some 4) }
+    ∷ record { calls = figure; key = 2; time = 1; gives = accepted None }
+    ∷ record { calls = figure; key = 2; time = 3; gives = accepted (Some 0) }
+    ∷ record { calls = figure; key = 2; time = 7; gives = record { number = 5; value = None } }
+    ∷ record { calls = full; key = 1; time = 2; gives = accepted (Some 0) }
     ∷ []
 
 -- the lookup of an example in both stores
@@ -156,10 +155,10 @@ shared =
 
 abbrev pub counter : List Example
 counter =
-    record { calls = shared; key = 1; time = 1; gives = accepted (Present 10) }
-    ∷ record { calls = shared; key = 1; time = 2; gives = accepted (Present 13) }
-    ∷ record { calls = shared; key = 1; time = 3; gives = accepted (Present 17) }
-    ∷ record { calls = shared; key = 1; time = 4; gives = record { number = 5; value = Absent } }
+    record { calls = shared; key = 1; time = 1; gives = accepted (Some 10) }
+    ∷ record { calls = shared; key = 1; time = 2; gives = accepted (Some 13) }
+    ∷ record { calls = shared; key = 1; time = 3; gives = accepted (Some 17) }
+    ∷ record { calls = shared; key = 1; time = 4; gives = record { number = 5; value = None } }
     ∷ []
 
 -- both totals stand in both stores

@@ -2,13 +2,11 @@
 -- recovery or empty start to its end now is accepted, whatever room is lent behind the surviving bytes and whatever used count the lent head has; then
 -- the store answers as the history of the whole surviving records. Recovery reads back what the calls wrote, and recovering again changes no cell.
 -- Assumes nothing.
-use Rattle.std.specs.Prelude.{◌≡◌, refl, true, List, [], ◌∷◌, ◌++◌, ℕ, ◌-◌, ◌*◌, ◌/◌, ltb, length, take, drop, replicate}
+use Rattle.std.specs.Prelude.{◌≡◌, refl, true, List, [], ◌∷◌, ◌++◌, ℕ, ◌-◌, ◌*◌, ◌/◌, ltb, length, take, drop, replicate, None}
 use Rattle.std.proofs.Common.{ap, sym, ◌∙◌, subst, arith, length-take-le, drop_at, le-leb, eq-eqb, ne_eqb}
 use Rattle.std.proofs.Math.Nat.{sub_self}
 use Rattle.rules.specs.Limits.{most_rows}
 use Rattle.rules.specs.declared.Record.{Record}
-use Rattle.rules.specs.declared.Value.TheVariants.{Absent}
-use Rattle.rules.specs.declared.Walked.TheVariants.{Whole}
 use Rattle.rules.specs.Bools.{and_left, and_right}
 use Rattle.rules.specs.Kinds.{record_size}
 use Rattle.rules.specs.Lists.{rising}
@@ -78,20 +76,20 @@ module _ {room : ℕ → Type 0} {ds : List Deed} {since : ℕ} {x : Cells} (r :
       rises
 
   -- and the walk accepts the surviving records
-  walked : walk x.head.low (surviving survived journal) ≡ Whole
+  walked : walk x.head.low (surviving survived journal) ≡ None
   walked =
       let w = recoverable x.head keys (length values) (length journal) survived can_recover in
       let e = survived_records (meant r) survived cut keys values journal w l.held in
       rw e (whole_walk x.head.low (drop (lost x survived) (meaning_of x).records)
       (good_accepts (cut_good (course_of ds since x) (tie r) (lost x survived) (omega (arith, cut.late)))))
 
-  pub replied : recover_reply x.head keys values journal survived ≡ accepted Absent
+  pub replied : recover_reply x.head keys values journal survived ≡ accepted None
   replied = rw can_recover (ap walked_reply walked)
 
   module _ (bytes : Bytes journal) (used : ℕ) (a : Reply) (head : Head) (journal' : List ℕ)
       (w : Recovered (counting used x.head) keys values journal survived a head journal') where
     -- Recovery accepts.
-    pub the_cut_is_accepted : a ≡ accepted Absent
+    pub the_cut_is_accepted : a ≡ accepted None
     the_cut_is_accepted = w.reply ∙ replied
 
     -- The store goes on as one reached by the calls whose records survived, with an abort for each transaction that ran at the cut.
@@ -134,7 +132,7 @@ module _ {room : ℕ → Type 0} {ds : List Deed} {since : ℕ} {x : Cells} (r :
     (w : Recovered (counting used x.head) keys values journal survived a head journal') where
   -- Recovering again accepts and changes neither the head nor a cell.
   pub recovering_again : (old : ℕ) (b : Reply) (head' : Head) (journal'' : List ℕ)
-      → Recovered (counting old head) keys values journal' (head.journal.used * record_size) b head' journal'' → (b ≡ accepted Absent) × (head' ≡ head) × (journal'' ≡ journal')
+      → Recovered (counting old head) keys values journal' (head.journal.used * record_size) b head' journal'' → (b ≡ accepted None) × (head' ≡ head) × (journal'' ≡ journal')
   recovering_again old b head' journal'' v =
       let next = the_cut_goes_on r survived cut keys values journal l bytes used a head journal' w in
       let next-cells : Cells = record { head = head; keys = keys; values = values; journal = journal' } in
@@ -186,7 +184,7 @@ module _ {room : ℕ → Type 0} {ds : List Deed} {since : ℕ} {x : Cells} (r :
   nothing_cut : Cut x since (end x)
   nothing_cut = record { late = omega arith; early = omega arith }
 
-  pub recovery_accepts : a ≡ accepted Absent
+  pub recovery_accepts : a ≡ accepted None
   recovery_accepts = the_cut_is_accepted r (end x) nothing_cut keys values journal l bytes used a head journal' w
 
   pub recovery_reads_back : (t : ℕ) (listed contents : List ℕ) → length listed ≡ length contents → (b b' : Reply) (listed₁ contents₁ listed₂ contents₂ : List ℕ)

@@ -1,9 +1,8 @@
 -- Rising rows in front of two columns, by the places of the columns. Assumes nothing.
-use Rattle.std.specs.Prelude.{◌≡◌, refl, true, List, [], ◌∷◌, ℕ, zero, suc, ◌<◌, ◌≤◌, eqb, ltb, length, drop, get_or}
+use Rattle.std.specs.Prelude.{◌≡◌, refl, true, List, [], ◌∷◌, ℕ, zero, suc, ◌<◌, ◌≤◌, eqb, ltb, length, drop, get_or, Some}
 use Rattle.std.proofs.Common.{ap, sym, ◌∙◌, arith, length-append, eqb-true, eq-eqb, ne_eqb, ltb-true}
 use Rattle.std.proofs.lemmas.Bool.{false≢true}
 use Rattle.std.proofs.Math.ListN.{get_or-append}
-use Rattle.rules.specs.declared.Value.TheVariants.{Present}
 use Rattle.rules.specs.Bools.{split, and_left, and_right}
 use Rattle.rules.specs.Values.{Row, row_value}
 use Rattle.rules.specs.Lists.{rising, row_keys}
@@ -32,7 +31,7 @@ rise m (r ∷ rows) h (suc i) (suc j) k l = rise r.key rows (and_right (ltb m r.
 
 -- the value of a row's key is the row's
 row_value_lem : (m : ℕ) (rows : List Row) → rising m rows ≡ true → (i : ℕ) → i < length rows
-    → row_value rows (get_or (row_keys rows) i 0) ≡ Present (get_or (row_values rows) i 0)
+    → row_value rows (get_or (row_keys rows) i 0) ≡ Some (get_or (row_values rows) i 0)
 row_value_lem m [] h i l = absurd (omega arith)
 row_value_lem m (r ∷ rows) h zero l = rw (eq-eqb r.key r.key refl)
 row_value_lem m (r ∷ rows) h (suc i) l =
@@ -51,7 +50,7 @@ row_of k (r ∷ rows) h =
 -- The list of a history, shown in front of two columns, is exactly its registers.
 pub shown_registers : (cs : List Commitment) (t : ℕ) (listed contents : List ℕ) → length listed ≡ length contents → length (list_in cs t) ≤ length listed
     → (a : Reply) (listed' contents' : List ℕ) → Shows (list_in cs t) 0 listed contents a listed' contents'
-    → (n : ℕ) × (a ≡ accepted (Present n)) × Registers cs t n listed' contents'
+    → (n : ℕ) × (a ≡ accepted (Some n)) × Registers cs t n listed' contents'
 shown_registers cs t listed contents p fits a listed' contents' s =
     let rows = list_in cs t in
     let l = history_lists cs t in
@@ -61,10 +60,10 @@ shown_registers cs t listed contents p fits a listed' contents' s =
     let cell : (i : ℕ) → i < length rows → get_or contents' i 0 ≡ get_or (row_values rows) i 0 =
     λ i b. ap (λ (c : List ℕ). get_or c i 0) s.values_column ∙ get_or-append (row_values rows) (drop (length rows) contents) 0 i (omega (arith, length_values rows))
     in
-    let value : (i : ℕ) → i < length rows → Present (get_or contents' i 0) ≡ value_in cs t (get_or listed' i 0) =
+    let value : (i : ℕ) → i < length rows → Some (get_or contents' i 0) ≡ value_in cs t (get_or listed' i 0) =
     λ i b.
     let q = rises_above 0 rows l.rises i b in
-    ap Present (cell i b)
+    ap Some (cell i b)
     ∙ sym (row_value_lem 0 rows l.rises i b)
     ∙ l.values (get_or (row_keys rows) i 0) (omega arith)
     ∙ sym (ap (value_in cs t) (key i b))

@@ -1,8 +1,7 @@
 -- The theorems on shared counters are not empty: poller and service port raise one register at the same time, on lent cells of both stores, and the lookup that the theorems
 -- give of each; a third that assigned it is refused. Assumes nothing.
-use Rattle.std.specs.Prelude.{◌≡◌, refl, List, [], ◌∷◌, ℕ, length, replicate}
+use Rattle.std.specs.Prelude.{◌≡◌, refl, List, [], ◌∷◌, ℕ, length, replicate, Some}
 use Rattle.std.proofs.Common.{arith}
-use Rattle.rules.specs.declared.Value.TheVariants.{Present}
 use Rattle.rules.specs.declared.Effect.TheVariants.{Assign, Add}
 use Rattle.rules.specs.Calls.{Call, Begin, Update, Commit}
 use Rattle.answer.specs.Reply.{Reply, accepted}
@@ -92,7 +91,7 @@ raised =
 
 -- Both totals stand: 10, 3 and 4.
 pub the_counter_at_3 : shaped_reply raised.cells.head raised.cells.keys raised.cells.values raised.cells.journal (lookup_decided 1 3)
-    ≡ accepted (Present 17)
+    ≡ accepted (Some 17)
 the_counter_at_3 =
     both_totals_are_looked_up raised.reached raised.cells.keys raised.cells.values raised.cells.journal (own raised.reached)
     [] _ [] _ _ refl 1 1 3 (omega arith) (omega arith) (omega arith) (omega arith) (omega arith) refl refl refl (refl, refl) (refl, refl)
@@ -168,7 +167,7 @@ map_raised = (
 )
 
 -- The map's lookup is the same, and so is its refusal.
-pub the_map_counter_at_3 : lookup_reply 1 3 map_raised.0.head map_raised.0.columns ≡ accepted (Present 17)
+pub the_map_counter_at_3 : lookup_reply 1 3 map_raised.0.head map_raised.0.columns ≡ accepted (Some 17)
 unfolding first_slot lowest_free places_of
 the_map_counter_at_3 =
     map_both_totals_are_looked_up map_raised.1 map_raised.0.columns (map_own map_raised.1) [] _ [] _ _ refl 1 1 3

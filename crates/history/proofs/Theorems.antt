@@ -1,8 +1,7 @@
 -- The demands, for a reader: each theorem with its whole signature; the proofs are in the files that are named. What has to be believed stands in
 -- History, Refusals, Adders and Lawful (what the user's words mean), Cells and MapCells (what a sequence of calls is), without_checkpoints (Silence), the contracts
 -- that these cite, and what the history shares with the rules: applied, or_zero, listed, row_value, among, with_room and the limits. Assumes nothing.
-use Rattle.std.specs.Prelude.{◌≡◌, true, false, ◌&&◌, List, [], ◌∷◌, ◌++◌, ◌≢◌, ℕ, ◌+◌, ◌*◌, ◌<◌, ◌≤◌, length, drop}
-use Rattle.rules.specs.declared.Value.TheVariants.{Absent, Present}
+use Rattle.std.specs.Prelude.{◌≡◌, true, false, ◌&&◌, List, [], ◌∷◌, ◌++◌, ◌≢◌, ℕ, ◌+◌, ◌*◌, ◌<◌, ◌≤◌, length, drop, Some, None}
 use Rattle.rules.specs.declared.Effect.TheVariants.{Assign}
 use Rattle.rules.specs.Kinds.{record_size}
 use Rattle.rules.specs.Effects.{or_zero}
@@ -64,7 +63,7 @@ map_answers = map.map_answers
 pub checkpoint_answers : {room : ℕ → Type 0} {ds : List Deed} {since : ℕ} {x : Cells} → Reached room ds since x → (keys values journal : List ℕ)
     → Lent x (end x) keys values journal → (T : ℕ) (a : Reply) (head : Head) (keys' values' journal' : List ℕ)
     → store.Checkpointed T x.head keys values journal a head keys' values' journal'
-    → a ≡ told (with_room (refusal_in (Checkpointed T) (history ds)) (length (list_in (history ds).commitments T)) (row_room (length keys))) Absent
+    → a ≡ told (with_room (refusal_in (Checkpointed T) (history ds)) (length (list_in (history ds).commitments T)) (row_room (length keys))) None
 checkpoint_answers = demands.checkpoint_answers
 
 -- DEMAND 2. A value looked up is the history's, at every time; a value read has the reader's own changes besides.
@@ -89,7 +88,7 @@ map_reads_the_history = map.map_reads_the_history
 -- Recovery reads back what the calls wrote: it accepts, and every list at every time, refused ones too, is what it was.
 pub recovery_accepts : {room : ℕ → Type 0} {ds : List Deed} {since : ℕ} {x : Cells} → Reached room ds since x → (keys values journal : List ℕ)
     → Lent x (end x) keys values journal → Bytes journal → (used : ℕ) (a : Reply) (head : Head) (journal' : List ℕ)
-    → Recovered (counting used x.head) keys values journal (end x) a head journal' → a ≡ accepted Absent
+    → Recovered (counting used x.head) keys values journal (end x) a head journal' → a ≡ accepted None
 recovery_accepts = restarts.recovery_accepts
 
 pub recovery_reads_back : {room : ℕ → Type 0} {ds : List Deed} {since : ℕ} {x : Cells} → Reached room ds since x → (keys values journal : List ℕ)
@@ -106,7 +105,7 @@ pub recovering_again : {room : ℕ → Type 0} {ds : List Deed} {since : ℕ} {x
     → (keys values journal : List ℕ) → Lent x survived keys values journal → Bytes journal → (used : ℕ) (a : Reply) (head : Head) (journal' : List ℕ)
     → Recovered (counting used x.head) keys values journal survived a head journal' → (old : ℕ) (b : Reply) (head' : Head) (journal'' : List ℕ)
     → Recovered (counting old head) keys values journal' (head.journal.used * record_size) b head' journal''
-    → (b ≡ accepted Absent) × (head' ≡ head) × (journal'' ≡ journal')
+    → (b ≡ accepted None) × (head' ≡ head) × (journal'' ≡ journal')
 recovering_again = restarts.recovering_again
 
 -- DEMAND 3. Over any sequence, at every time from low to last, a list with room enough has a count n, and exactly the history's registers in n rows.
@@ -114,13 +113,13 @@ pub every_listing : {room : ℕ → Type 0} {ds : List Deed} {since : ℕ} {x : 
     → Lent x (end x) keys values journal → (t : ℕ) → (history ds).low ≤ t → t ≤ last_in (history ds) → (listed contents : List ℕ)
     → length listed ≡ length contents → length (list_in (history ds).commitments t) ≤ length listed → (a : Reply) (listed' contents' : List ℕ)
     → ListedBy x.head keys values journal t listed contents a listed' contents'
-    → (n : ℕ) × (a ≡ accepted (Present n)) × Registers (history ds).commitments t n listed' contents'
+    → (n : ℕ) × (a ≡ accepted (Some n)) × Registers (history ds).commitments t n listed' contents'
 every_listing = demands.every_listing
 
 pub map_every_listing : {ds : List Deed} {m : MapCells} → MapReached ds m → (cs : Columns) → MapLent m cs → (t : ℕ) → (history ds).low ≤ t
     → t ≤ last_in (history ds) → (listed contents : List ℕ) → length listed ≡ length contents → length (list_in (history ds).commitments t) ≤ length listed
     → (a : Reply) (listed' contents' : List ℕ) → ListedAt t m.head cs listed contents a listed' contents'
-    → (n : ℕ) × (a ≡ accepted (Present n)) × Registers (history ds).commitments t n listed' contents'
+    → (n : ℕ) × (a ≡ accepted (Some n)) × Registers (history ds).commitments t n listed' contents'
 map_every_listing = map.map_every_listing
 
 -- Lists at other times and with less room get the history's number; rows beyond the count keep what they hold.
@@ -223,7 +222,7 @@ stores_checkpoint_alike = map.stores_checkpoint_alike
 -- used count the lent head has: recovery accepts, and the sequence goes on from what survived, with an abort for each transaction that ran.
 pub the_cut_is_accepted : {room : ℕ → Type 0} {ds : List Deed} {since : ℕ} {x : Cells} → Reached room ds since x → (survived : ℕ) → Cut x since survived
     → (keys values journal : List ℕ) → Lent x survived keys values journal → Bytes journal → (used : ℕ) (a : Reply) (head : Head) (journal' : List ℕ)
-    → Recovered (counting used x.head) keys values journal survived a head journal' → a ≡ accepted Absent
+    → Recovered (counting used x.head) keys values journal survived a head journal' → a ≡ accepted None
 the_cut_is_accepted = restarts.the_cut_is_accepted
 
 pub the_cut_goes_on : {room : ℕ → Type 0} {ds : List Deed} {since : ℕ} {x : Cells} → Reached room ds since x → (survived : ℕ) → Cut x since survived
@@ -259,7 +258,7 @@ the_cut_ends = restarts.the_cut_ends
 -- RULE 3.11. With the same lent room throughout, a running transaction can always be ended by abort, and a commit never gets 12.
 pub ending_is_possible : (bytes : ℕ) {ds : List Deed} {since : ℕ} {x : Cells} → Reached (λ n. n ≡ bytes) ds since x → (keys values journal : List ℕ)
     → Lent x (end x) keys values journal → length journal ≡ bytes → (n : ℕ) → among n (numbers (history ds).runners) ≡ true
-    → (a : Reply) (head : Head) (journal' : List ℕ) → Wrote (Abort n) x.head keys values journal a head journal' → a ≡ accepted Absent
+    → (a : Reply) (head : Head) (journal' : List ℕ) → Wrote (Abort n) x.head keys values journal a head journal' → a ≡ accepted None
 ending_is_possible = endings.ending_is_possible
 
 pub abort_never_12 : (bytes : ℕ) {ds : List Deed} {since : ℕ} {x : Cells} → Reached (λ n. n ≡ bytes) ds since x → (keys values journal : List ℕ)
@@ -301,7 +300,7 @@ pub both_commit : {room : ℕ → Type 0} {ds : List Deed} {since : ℕ} {x : Ce
     → ShareCounters (changes_of n (history ds).runners) (changes_of m (history ds).runners) → (a : Reply) (head : Head) (journal' : List ℕ)
     → Wrote (Commit n t) x.head keys values journal a head journal'
     → among n (numbers (history ds).runners) ≡ true → conflicts_with (history ds).commitments n (history ds).runners ≡ false
-    → last_in (history ds) < t → u < t → a.number ≢ 12 → a ≡ accepted Absent
+    → last_in (history ds) < t → u < t → a.number ≢ 12 → a ≡ accepted None
 both_commit = counters.both_commit
 
 pub a_map_counter_is_shared : {ds : List Deed} {x : MapCells} (n m t u : ℕ) → MapReached (Did (Commit m u) ∷ ds) x → (cs : Columns) → MapLent x cs → n ≢ m
@@ -314,7 +313,7 @@ pub both_commit_in_the_map : {ds : List Deed} {x : MapCells} (n m t u : ℕ) →
     → ShareCounters (changes_of n (history ds).runners) (changes_of m (history ds).runners) → (a : Reply) (head : MapHead) {cs' : Columns}
     → Does x.head cs a head (Did (Commit n t)) cs'
     → among n (numbers (history ds).runners) ≡ true → conflicts_with (history ds).commitments n (history ds).runners ≡ false
-    → last_in (history ds) < t → u < t → a.number ≢ 12 → a ≡ accepted Absent
+    → last_in (history ds) < t → u < t → a.number ≢ 12 → a ≡ accepted None
 both_commit_in_the_map = counters.both_commit_in_the_map
 
 -- Where two committed transactions only added to a key, and no other wrote it from a time u before the first of them up to t, its value at t is the value at u,
@@ -326,7 +325,7 @@ pub both_totals_are_looked_up : {room : ℕ → Type 0} {ds : List Deed} {since 
     → (history ds).low ≤ t → t ≤ last_in (history ds) → written_between newer u t k ≡ false → written_between between u t k ≡ false
     → written_between older u t k ≡ false → Raises k first → Raises k second
     → shaped_reply x.head keys values journal (lookup_decided k t)
-    ≡ accepted (Present (raised_by (or_zero (value_in (history ds).commitments u k)) (total k first.changes + total k second.changes)))
+    ≡ accepted (Some (raised_by (or_zero (value_in (history ds).commitments u k)) (total k first.changes + total k second.changes)))
 both_totals_are_looked_up = counters.both_totals_are_looked_up
 
 pub both_totals_are_listed : {room : ℕ → Type 0} {ds : List Deed} {since : ℕ} {x : Cells} → Reached room ds since x → (keys values journal : List ℕ)
@@ -339,7 +338,7 @@ pub both_totals_are_listed : {room : ℕ → Type 0} {ds : List Deed} {since : �
     → (a : Reply) (listed' contents' : List ℕ) → ListedBy x.head keys values journal t listed contents a listed' contents'
     → Shows (list_in (history ds).commitments t) 0 listed contents a listed' contents'
     × (row_value (list_in (history ds).commitments t) k
-    ≡ Present (raised_by (or_zero (value_in (history ds).commitments u k)) (total k first.changes + total k second.changes)))
+    ≡ Some (raised_by (or_zero (value_in (history ds).commitments u k)) (total k first.changes + total k second.changes)))
 both_totals_are_listed = counters.both_totals_are_listed
 
 pub map_both_totals_are_looked_up : {ds : List Deed} {x : MapCells} → MapReached ds x → (cs : Columns) → MapLent x cs
@@ -348,7 +347,7 @@ pub map_both_totals_are_looked_up : {ds : List Deed} {x : MapCells} → MapReach
     → (history ds).low ≤ t → t ≤ last_in (history ds) → written_between newer u t k ≡ false → written_between between u t k ≡ false
     → written_between older u t k ≡ false → Raises k first → Raises k second
     → lookup_reply k t x.head cs
-    ≡ accepted (Present (raised_by (or_zero (value_in (history ds).commitments u k)) (total k first.changes + total k second.changes)))
+    ≡ accepted (Some (raised_by (or_zero (value_in (history ds).commitments u k)) (total k first.changes + total k second.changes)))
 map_both_totals_are_looked_up = counters.map_both_totals_are_looked_up
 
 pub map_both_totals_are_listed : {ds : List Deed} {x : MapCells} → MapReached ds x → (cs : Columns) → MapLent x cs
@@ -360,7 +359,7 @@ pub map_both_totals_are_listed : {ds : List Deed} {x : MapCells} → MapReached 
     → (a : Reply) (listed' contents' : List ℕ) → ListedAt t x.head cs listed contents a listed' contents'
     → Shows (list_in (history ds).commitments t) 0 listed contents a listed' contents'
     × (row_value (list_in (history ds).commitments t) k
-    ≡ Present (raised_by (or_zero (value_in (history ds).commitments u k)) (total k first.changes + total k second.changes)))
+    ≡ Some (raised_by (or_zero (value_in (history ds).commitments u k)) (total k first.changes + total k second.changes)))
 map_both_totals_are_listed = counters.map_both_totals_are_listed
 
 -- An adder and an assigner of one key, or two assigners, still conflict, whichever commits first.
@@ -384,7 +383,7 @@ map_an_assign_conflicts = counters.map_an_assign_conflicts
 -- NO TRIVIAL STORE. A committed assign is looked up, and listed where the list has room.
 pub a_committed_assign_is_looked_up : {room : ℕ → Type 0} {ds : List Deed} {since : ℕ} {x : Cells} (n k v t : ℕ)
     → Reached room (Did (Commit n t) ∷ Did (Update n k (Assign v)) ∷ ds) since x → (keys values journal : List ℕ) → Lent x (end x) keys values journal
-    → shaped_reply x.head keys values journal (lookup_decided k t) ≡ accepted (Present v)
+    → shaped_reply x.head keys values journal (lookup_decided k t) ≡ accepted (Some v)
 a_committed_assign_is_looked_up = corollaries.a_committed_assign_is_looked_up
 
 pub a_committed_assign_is_listed : {room : ℕ → Type 0} {ds : List Deed} {since : ℕ} {x : Cells} (n k v t : ℕ)
@@ -392,12 +391,12 @@ pub a_committed_assign_is_listed : {room : ℕ → Type 0} {ds : List Deed} {sin
     → (let rows = list_in (history (Did (Commit n t) ∷ Did (Update n k (Assign v)) ∷ ds)).commitments t in
     (listed contents : List ℕ) → length listed ≡ length contents → length rows ≤ length listed
     → (a : Reply) (listed' contents' : List ℕ) → ListedBy x.head keys values journal t listed contents a listed' contents'
-    → Shows rows 0 listed contents a listed' contents' × (row_value rows k ≡ Present v))
+    → Shows rows 0 listed contents a listed' contents' × (row_value rows k ≡ Some v))
 a_committed_assign_is_listed = corollaries.a_committed_assign_is_listed
 
 pub the_map_looks_up_a_committed_assign : {ds : List Deed} {m : MapCells} (n k v t : ℕ)
     → MapReached (Did (Commit n t) ∷ Did (Update n k (Assign v)) ∷ ds) m → (cs : Columns) → MapLent m cs
-    → lookup_reply k t m.head cs ≡ accepted (Present v)
+    → lookup_reply k t m.head cs ≡ accepted (Some v)
 the_map_looks_up_a_committed_assign = corollaries.the_map_looks_up_a_committed_assign
 
 pub the_map_lists_a_committed_assign : {ds : List Deed} {m : MapCells} (n k v t : ℕ)
@@ -405,5 +404,5 @@ pub the_map_lists_a_committed_assign : {ds : List Deed} {m : MapCells} (n k v t 
     → (let rows = list_in (history (Did (Commit n t) ∷ Did (Update n k (Assign v)) ∷ ds)).commitments t in
     (listed contents : List ℕ) → length listed ≡ length contents → length rows ≤ length listed
     → (a : Reply) (listed' contents' : List ℕ) → ListedAt t m.head cs listed contents a listed' contents'
-    → Shows rows 0 listed contents a listed' contents' × (row_value rows k ≡ Present v))
+    → Shows rows 0 listed contents a listed' contents' × (row_value rows k ≡ Some v))
 the_map_lists_a_committed_assign = corollaries.the_map_lists_a_committed_assign

@@ -1,11 +1,10 @@
 -- The invariant of every sequence, step by step: the store answers as the whole journal of its deeds, and its own journal is one that the walk accepts, also where
 -- the newest records since the latest checkpoint, restart or start are cut off. Assumes nothing.
-use Rattle.std.specs.Prelude.{◌≡◌, refl, Bool, true, not, List, [], ◌∷◌, ℕ, zero, suc, ◌≤◌, drop}
+use Rattle.std.specs.Prelude.{◌≡◌, refl, Bool, true, not, List, [], ◌∷◌, ℕ, zero, suc, ◌≤◌, drop, None}
 use Rattle.std.proofs.Common.{ap, sym, ◌∙◌, subst, arith}
 use Rattle.rules.specs.Limits.{numbers_end}
 use Rattle.rules.specs.declared.Record.{Record}
-use Rattle.rules.specs.declared.Value.{Value}
-use Rattle.rules.specs.declared.Value.TheVariants.{Absent}
+use Rattle.rules.specs.Value.{Value}
 use Rattle.rules.specs.Kinds.{is_begin, is_end}
 use Rattle.rules.specs.Transactions.{any, of, runs}
 use Rattle.rules.specs.Times.{last, above, next}
@@ -78,7 +77,7 @@ module _ {walked f : ℕ} {mark : List Record} {past : List Deed} where
 pub record Tied (y : Course) : Type 0 where
   pub mark : List Record
   pub past : List Deed
-  pub alike : Alike y.store.low y.store.floor 1 (row_value y.store.base) (λ k. Absent) mark (whole past).records
+  pub alike : Alike y.store.low y.store.floor 1 (row_value y.store.base) (λ k. None) mark (whole past).records
   pub good : Good (walk_low y.store) mark
   pub since : Since (walk_low y.store) y.store.floor mark past y.since y.store.records y.deeds
   pub behind : walk_low y.store ≤ y.store.low
@@ -96,8 +95,8 @@ module _ (y : Course) (h : Tied y) (x : ℕ) (l : x ≤ y.since) where
   cut_good = good_since h.good (since_lost x l h.since).1
 
   -- and answers as the whole journal of the deeds that are left
-  cut_alike : Alike y.store.low y.store.floor 1 (row_value y.store.base) (λ k. Absent) (drop x y.store.records) (whole (drop x y.deeds)).records
-  cut_alike = alike_since y.store.low 1 (row_value y.store.base) (λ k. Absent) h.within h.alike (since_lost x l h.since).1
+  cut_alike : Alike y.store.low y.store.floor 1 (row_value y.store.base) (λ k. None) (drop x y.store.records) (whole (drop x y.deeds)).records
+  cut_alike = alike_since y.store.low 1 (row_value y.store.base) (λ k. None) h.within h.alike (since_lost x l h.since).1
 
   -- low
   cut_low : (whole (drop x y.deeds)).low ≡ y.store.low
@@ -122,7 +121,7 @@ module _ (y : Course) (h : Tied y) (x : ℕ) (l : x ≤ y.since) where
         past = restarted_by ns x y.deeds;
         alike =
             rw (cut_next, whole_aborting ns left ok)
-            (alike_recover K keeps cut_good y.store.low f 1 (row_value y.store.base) (λ k. Absent) (whole left).records h.behind cut_alike ns choice);
+            (alike_recover K keeps cut_good y.store.low f 1 (row_value y.store.base) (λ k. None) (whole left).records h.behind cut_alike ns choice);
         good = good_recover K keeps cut_good;
         since = marked;
         behind = h.behind;
@@ -147,7 +146,7 @@ module _ (y : Course) (h : Tied y) (x : ℕ) (l : x ≤ y.since) where
 
 module _ (y : Course) (h : Tied y) where
   -- the store answers as the whole journal of its deeds
-  pub now : Alike y.store.low y.store.floor 1 (row_value y.store.base) (λ k. Absent) y.store.records (whole y.deeds).records
+  pub now : Alike y.store.low y.store.floor 1 (row_value y.store.base) (λ k. None) y.store.records (whole y.deeds).records
   now = cut_alike y h 0 (omega arith)
 
   -- its journal is good
@@ -168,7 +167,7 @@ module _ (y : Course) (h : Tied y) where
   from_now n u = rw (← low_now, now.own n u) ((sound h.lawful).from n (sym (now.run n) ∙ u))
 
   -- the store's values are the whole journal's
-  pub value_now : (k t : ℕ) → 1 ≤ k → y.store.low ≤ t → value_of k t y.store ≡ value Absent k t (whole y.deeds).records
+  pub value_now : (k t : ℕ) → 1 ≤ k → y.store.low ≤ t → value_of k t y.store ≡ value None k t (whole y.deeds).records
   value_now k t i l = sym (since_all k t y.store.low (row_value y.store.base k) good_now) ∙ now.values k t i l
 
   -- the next number needs no cap
@@ -193,7 +192,7 @@ module _ (y : Course) (h : Tied y) where
         u,
         low_now,
         now.lasts,
-        conflict_same y.store.low y.store.floor 1 (row_value y.store.base) (λ k. Absent) y.store.records
+        conflict_same y.store.low y.store.floor 1 (row_value y.store.base) (λ k. None) y.store.records
             (whole y.deeds).records now n u (from_now n u),
       ))
       (λ u. rw (← now.run n, u))
@@ -201,7 +200,7 @@ module _ (y : Course) (h : Tied y) where
       rw (
         low_now,
         now.lasts,
-        held_same y.store.low y.store.floor 1 (row_value y.store.base) (λ k. Absent) y.store.records (whole y.deeds).records now t,
+        held_same y.store.low y.store.floor 1 (row_value y.store.base) (λ k. None) y.store.records (whole y.deeds).records now t,
       )
 
   -- one record more
@@ -236,10 +235,10 @@ module _ (y : Course) (h : Tied y) where
 
   -- a checkpoint's store answers as the whole journal
   pub alike_checkpointed : {T : ℕ} → Allowed y.store (Checkpointed T)
-      → Alike T (next_of y.store) 1 (row_value (checkpointed T y.store).base) (λ k. Absent) (kept_of T y.store) (whole y.deeds).records
+      → Alike T (next_of y.store) 1 (row_value (checkpointed T y.store).base) (λ k. None) (kept_of T y.store) (whole y.deeds).records
   alike_checkpointed (may_checkpoint T l m n) =
       rw next_above
-      (alike_checkpoint y.store.low y.store.floor 1 (row_value y.store.base) (λ k. Absent) y.store.records (whole y.deeds).records now
+      (alike_checkpoint y.store.low y.store.floor 1 (row_value y.store.base) (λ k. None) y.store.records (whole y.deeds).records now
       good_now T (row_value (list_of T y.store)) l n
       (λ k i.
       (list_lists y.store.base y.store.records T).values k i ∙ sym (since_all k T y.store.low (row_value y.store.base k) good_now)))

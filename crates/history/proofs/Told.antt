@@ -1,11 +1,10 @@
 -- A history tells what a journal says: the same committed transactions with the same changes, the same running ones, the same values; and one deed
 -- more leaves it so. Assumes nothing.
-use Rattle.std.specs.Prelude.{◌≡◌, refl, true, false, cond, List, [], ◌∷◌, ℕ, eqb}
+use Rattle.std.specs.Prelude.{◌≡◌, refl, true, false, cond, List, [], ◌∷◌, ℕ, eqb, None}
 use Rattle.std.proofs.Common.{sym, ◌∙◌, subst, arith, eqb-true, eq-eqb}
 use Rattle.std.proofs.lemmas.Bool.{false≢true}
 use Rattle.rules.specs.declared.Record.{Record}
-use Rattle.rules.specs.declared.Value.{Value}
-use Rattle.rules.specs.declared.Value.TheVariants.{Absent}
+use Rattle.rules.specs.Value.{Value}
 use Rattle.rules.specs.Kinds.{is_begin, is_update, is_commit, is_end, begun, committed, aborted}
 use Rattle.rules.specs.Effects.{effect_of, effects}
 use Rattle.rules.specs.Transactions.{of, runs, snapshot, running, without}
@@ -55,7 +54,7 @@ making_effects k (r ∷ own) v =
     (λ u. rw (u, making_effects k own v))
 
 -- the value of a key
-pub value_told : (k t : ℕ) (rs : List Record) → value Absent k t rs ≡ value_in (commitments_in rs) t k
+pub value_told : (k t : ℕ) (rs : List Record) → value None k t rs ≡ value_in (commitments_in rs) t k
 value_told k t [] = refl
 value_told k t (r ∷ rs) =
     split (is_commit r)

@@ -4,7 +4,7 @@ use Rattle.std.specs.Prelude.{◌≡◌, refl, Bool, cond, List, [], ◌∷◌, 
 use Rattle.std.proofs.Common.{◌∙◌, arith, ltb-true, ltb-false, le-leb, lt-ltb, le-ltb}
 use Rattle.std.proofs.lemmas.Bool.{lt-leb}
 use Rattle.rules.specs.declared.Record.{Record}
-use Rattle.rules.specs.declared.Value.{Value}
+use Rattle.rules.specs.Value.{Value}
 use Rattle.rules.specs.Kinds.{is_commit}
 use Rattle.rules.specs.Transactions.{of}
 use Rattle.rules.specs.Times.{last}

@@ -1,9 +1,8 @@
 -- The theorems are not empty: one sequence on lent cells, with junk behind the used ones, a refused call, a checkpoint, and a restart inside a record from a
 -- head whose used count is old; the map store given the same calls, refused one and all; and the lists that the theorems give of both. Assumes nothing.
-use Rattle.std.specs.Prelude.{◌≡◌, refl, Bool, true, ◌&&◌, List, [], ◌∷◌, ℕ, zero, suc, ltb, length, replicate}
+use Rattle.std.specs.Prelude.{◌≡◌, refl, Bool, true, ◌&&◌, List, [], ◌∷◌, ℕ, zero, suc, ltb, length, replicate, Some}
 use Rattle.std.proofs.Common.{arith, ltb-true}
 use Rattle.rules.specs.Bools.{and_left, and_right}
-use Rattle.rules.specs.declared.Value.TheVariants.{Present}
 use Rattle.rules.specs.declared.Effect.TheVariants.{Assign, Add}
 use Rattle.rules.specs.Calls.{Call, Begin, Update, Abort, Commit}
 use Rattle.record.specs.Bytes.{Bytes}
@@ -161,7 +160,7 @@ used_now = refl
 -- The list at 4, in columns of two rows: key 5 has 10 and 3 more.
 pub the_list_at_4 : (a : Reply) (listed contents : List ℕ)
     → ListedBy restarted.cells.head restarted.cells.keys restarted.cells.values restarted.cells.journal 4 (7 ∷ 7 ∷ []) (7 ∷ 7 ∷ []) a listed contents
-    → (a ≡ accepted (Present 1)) × (listed ≡ 5 ∷ 7 ∷ []) × (contents ≡ 13 ∷ 7 ∷ [])
+    → (a ≡ accepted (Some 1)) × (listed ≡ 5 ∷ 7 ∷ []) × (contents ≡ 13 ∷ 7 ∷ [])
 the_list_at_4 a listed contents w =
     let r = restarted.reached in
     let m =
@@ -261,7 +260,7 @@ map_9 = (
 -- The map's list at 4 is the same.
 pub the_map_lists_at_4 : (a : Reply) (listed contents : List ℕ)
     → ListedAt 4 map_9.0.head map_9.0.columns (7 ∷ 7 ∷ []) (7 ∷ 7 ∷ []) a listed contents
-    → (a ≡ accepted (Present 1)) × (listed ≡ 5 ∷ 7 ∷ []) × (contents ≡ 13 ∷ 7 ∷ [])
+    → (a ≡ accepted (Some 1)) × (listed ≡ 5 ∷ 7 ∷ []) × (contents ≡ 13 ∷ 7 ∷ [])
 unfolding first_slot lowest_free places_of
 the_map_lists_at_4 a listed contents w =
     let m =

@@ -1,8 +1,7 @@
 -- Any sequence of calls on a journal store as its host keeps it: head, base columns and journal bytes, lent to each call with whatever room stands
 -- behind the used cells. A call is one whose answer, head and cells meet the contract that the code is proved to meet; refused calls stay in the
 -- sequence and change nothing. Assumes nothing.
-use Rattle.std.specs.Prelude.{◌≡◌, true, List, [], ◌∷◌, ◌++◌, ℕ, suc, ◌-◌, ◌*◌, ◌/◌, ◌^◌, ◌<◌, ◌≤◌, length, take, drop, get_or}
-use Rattle.rules.specs.declared.Value.TheVariants.{Present}
+use Rattle.std.specs.Prelude.{◌≡◌, true, List, [], ◌∷◌, ◌++◌, ℕ, suc, ◌-◌, ◌*◌, ◌/◌, ◌^◌, ◌<◌, ◌≤◌, length, take, drop, get_or, Some}
 use Rattle.rules.specs.Kinds.{record_size}
 use Rattle.rules.specs.Values.{Row}
 use Rattle.rules.specs.Lists.{row_keys}
@@ -50,7 +49,7 @@ pub record Lent (x : Cells) (bytes : ℕ) (keys values journal : List ℕ) : Typ
 
 -- a list that gets a number: where it is 0 the count of the rows, and these in front of both columns; else nothing
 pub record Shows (rows : List Row) (number : ℕ) (listed contents : List ℕ) (a : Reply) (listed' contents' : List ℕ) : Type 0 where
-  pub reply : a ≡ told number (Present (length rows))
+  pub reply : a ≡ told number (Some (length rows))
   pub keys_column : listed' ≡ after number (row_keys rows ++ drop (length rows) listed) listed
   pub values_column : contents' ≡ after number (row_values rows ++ drop (length rows) contents) contents
 
@@ -62,7 +61,7 @@ pub record Registers (cs : List Commitment) (t n : ℕ) (keys values : List ℕ)
   pub rise : (i j : ℕ) → i < j → j < n → get_or keys i 0 < get_or keys j 0
   pub each : (k : ℕ) → 1 ≤ k → written_by cs t k ≡ true → (i : ℕ) × (i < n) × (get_or keys i 0 ≡ k)
   pub only : (i : ℕ) → i < n → (1 ≤ get_or keys i 0) × (written_by cs t (get_or keys i 0) ≡ true)
-  pub value : (i : ℕ) → i < n → Present (get_or values i 0) ≡ value_in cs t (get_or keys i 0)
+  pub value : (i : ℕ) → i < n → Some (get_or values i 0) ≡ value_in cs t (get_or keys i 0)
 
 -- a cut at a byte that lies no earlier than the journal's end at the latest accepted checkpoint, recovery or empty start, and no later than its end
 -- now: `since` records were written since

@@ -2,9 +2,8 @@
 -- ever taken out of it but by a restart, and a checkpoint moves low only. With the stores it shares rule 3.1 (applied) and how rows are built from keys
 -- and any function that gives their values (listed), and no other rule; also the names of the calls, and how a number is found in a list (among). Lists
 -- stand the newest first. Assumes nothing.
-use Rattle.std.specs.Prelude.{Bool, true, false, cond, ◌&&◌, ◌||◌, List, [], ◌∷◌, ℕ, suc, max, eqb, leb, drop}
-use Rattle.rules.specs.declared.Value.{Value}
-use Rattle.rules.specs.declared.Value.TheVariants.{Absent, Present}
+use Rattle.std.specs.Prelude.{Bool, true, false, cond, ◌&&◌, ◌||◌, List, [], ◌∷◌, ℕ, suc, max, eqb, leb, drop, Some, None}
+use Rattle.rules.specs.Value.{Value}
 use Rattle.rules.specs.declared.Effect.{Effect}
 use Rattle.rules.specs.Effects.{applied}
 use Rattle.rules.specs.Values.{Row}
@@ -118,7 +117,7 @@ making k (c ∷ older) v = cond (eqb c.key k) (applied c.effect (making k older 
 
 -- the value of k at t: from absent on, the changes of each transaction committed at or before t, in the order of the commits
 abbrev pub value_in : List Commitment → ℕ → ℕ → Value
-value_in [] t k = Absent
+value_in [] t k = None
 value_in (c ∷ older) t k = cond (leb c.time t) (making k c.changes (value_in older t k)) (value_in older t k)
 
 -- what transaction n reads in k: the value at its snapshot, then its own changes in order
@@ -156,8 +155,8 @@ written_by (c ∷ older) t k = (leb c.time t && changes k c.changes) || written_
 
 -- a value that is not absent
 abbrev pub is_present : Value → Bool
-is_present Absent = false
-is_present (Present v) = true
+is_present None = false
+is_present (Some v) = true
 
 -- the deeds without the checkpoints
 abbrev pub without_checkpoints : List Deed → List Deed

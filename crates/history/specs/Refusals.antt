@@ -1,12 +1,11 @@
 -- Section 6 from the history alone, but for shape: the number that a deed gets, in the order of its tests, and what an accepted one gives. It shares
 -- with the stores that no room (12) is the last test. Assumes nothing.
-use Rattle.std.specs.Prelude.{Bool, true, false, cond, not, ◌&&◌, ◌||◌, List, [], ◌∷◌, ℕ, ◌+◌, eqb, leb, ltb, length}
+use Rattle.std.specs.Prelude.{Bool, true, false, cond, not, ◌&&◌, ◌||◌, List, [], ◌∷◌, ℕ, ◌+◌, eqb, leb, ltb, length, Some, None}
 use Rattle.rules.specs.Limits.{most_running, most_keys, numbers_end}
 use Rattle.rules.specs.Lists.{among}
 use Rattle.rules.specs.declared.Effect.{Effect}
 use Rattle.rules.specs.declared.Effect.TheVariants.{Assign, Add}
-use Rattle.rules.specs.declared.Value.{Value}
-use Rattle.rules.specs.declared.Value.TheVariants.{Absent, Present}
+use Rattle.rules.specs.Value.{Value}
 use Rattle.rules.specs.Calls.{Call, Begin, Update, Abort, Commit, with_room}
 use Rattle.history.specs.History.{Change, Commitment, Runner, History, Deed, Did, Checkpointed, numbers, changes_of, snapshot_of, latest, changes}
 
@@ -77,10 +76,10 @@ refusal_in (Checkpointed t) h = time_refused t h (cond (holds_back t h.runners) 
 
 -- what an accepted call gives: begin its number, the others nothing
 abbrev pub gives_in : Call → History → Value
-gives_in (Begin t) h = Present h.next
-gives_in (Update n k e) h = Absent
-gives_in (Abort n) h = Absent
-gives_in (Commit n t) h = Absent
+gives_in (Begin t) h = Some h.next
+gives_in (Update n k e) h = None
+gives_in (Abort n) h = None
+gives_in (Commit n t) h = None
 
 -- rule 3.11: begin needs 2 free records and one for each running transaction, update 1 and one for each running, abort and commit 1
 abbrev pub need_in : Call → History → ℕ
@@ -105,7 +104,7 @@ map_number_in used room (Checkpointed t) h = refusal_in (Checkpointed t) h
 -- what an accepted deed gives
 abbrev pub deed_gives : Deed → History → Value
 deed_gives (Did c) h = gives_in c h
-deed_gives (Checkpointed t) h = Absent
+deed_gives (Checkpointed t) h = None
 
 -- the numbers that a lookup and a read get
 abbrev pub lookup_number : ℕ → ℕ → History → ℕ

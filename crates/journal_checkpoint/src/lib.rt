@@ -3,7 +3,6 @@
 
 ghost use Rattle.std.specs.Prelude.{◌≡◌, ◌≤◌, length};
 ghost use Rattle.rules.specs.Limits.{most_rows};
-ghost use Rattle.rules.specs.declared.Value.TheVariants.{Absent};
 ghost use Rattle.rules.specs.Lists.{list_at};
 ghost use Rattle.rules.specs.Columns.{first_rows};
 ghost use Rattle.rules.specs.Calls.{checkpoint_refusal};
@@ -14,9 +13,9 @@ ghost use Rattle.listing.specs.Settled.{Ample};
 ghost use Rattle.journal_store.specs.Shape.{Shaped, meaning, row_room};
 ghost use Rattle.journal_store.specs.CallContracts.{Checkpointed, Settled};
 
-use answer::{Done, Refusal};
+use answer::{Outcome, Refusal};
 use journal::{Base, Journal};
-use journal_store::{Head, Outcome};
+use journal_store::Head;
 
 // How many cells the columns of a short store have: a cell for each base row and each record, and a spare one.
 const FEW: usize = Journal::FEW;
@@ -32,31 +31,31 @@ fn row_room(rows: usize) -> usize
 }
 
 // A refused call gives the head back as it was.
-fn refused(h: Head, why: Refusal) -> Outcome
+fn refused(h: Head, why: Refusal) -> Outcome<Head, ()>
     ensures { (result.head ≡ h) × (of_done result.answer ≡ refused_by why) }
 {
     Outcome {
         head: h,
-        answer: Done::Refused(why),
+        answer: Err(why),
     }
 }
 
 // What a store of good shape answers before it is known whether the list fits.
-fn decide(h: Head, keys: &[u32], values: &[u32], journal: &[u8], t: u64) -> Done
+fn decide(h: Head, keys: &[u32], values: &[u32], journal: &[u8], t: u64) -> Result<(), Refusal>
     requires { Shaped h (length keys.now) (length values.now) (length journal.now) }
     ensures { of_done result ≡ told (checkpoint_refusal t (meaning h keys.now values.now journal.now)) Absent }
 {
     let used = h.journal.used;
     if t < h.low {
-        return Done::Refused(Refusal::TooOld);
+        return Err(Refusal::TooOld);
     }
     if journal::times::is_future(journal, used, h.low, t) {
-        return Done::Refused(Refusal::Future);
+        return Err(Refusal::Future);
     }
     if journal::transactions::held(journal, used, t) {
-        return Done::Refused(Refusal::Held);
+        return Err(Refusal::Held);
     }
-    Done::Accepted
+    Ok(())
 }
 
 // The list at t, made aside in two columns, since it is read from the base; where it fits it becomes the base. How many rows it has.
@@ -129,14 +128,14 @@ pub fn checkpoint(
     values: &mut [u32],
     journal: &mut [u8],
     t: u64,
-) -> Outcome
+) -> Outcome<Head, ()>
     ensures { Checkpointed t h keys.old values.old journal.old (of_done result.answer) result.head keys.new values.new journal.new }
 {
     if !journal_store::shaped(h, keys.len(), values.len(), journal.len()) {
         return refused(h, Refusal::BadShape);
     }
     let answer = decide(h, keys, values, journal, t);
-    if !answer.accepted() {
+    if !answer.is_ok() {
         return Outcome { head: h, answer };
     }
     let used = h.journal.used;

@@ -7,7 +7,7 @@ ghost use Rattle.answer.specs.Reply.{of_listed};
 ghost use Rattle.journal_store.specs.Shape.{meaning};
 ghost use Rattle.journal_store.specs.CallContracts.{is_list_shaped, ListedBy};
 
-use answer::{Listed, Refusal};
+use answer::Refusal;
 use journal_store::Head;
 
 // The shape test of every call, and that the two columns of the list are paired.
@@ -30,7 +30,7 @@ fn fill(
     t: u64,
     listed: &mut [u32],
     contents: &mut [u32],
-) -> Listed
+) -> Result<usize, Refusal>
     requires { (is_list_shaped h (length keys.now) (length values.now) (length journal.now) (length listed.old) (length contents.old) ≡ true) × (h.low ≤ t) × (ltb (last_of (meaning h keys.now values.now journal.now)) t ≡ false) }
     ensures { ListedBy h keys.now values.now journal.now t listed.old contents.old (of_listed result) listed.new contents.new }
 {
@@ -38,7 +38,7 @@ fn fill(
     let used = h.journal.used;
     if rows + used < listed.len() {
         let made = listing::listing(keys, values, rows, journal, used, t, listed, contents);
-        return Listed::Rows(made);
+        return Ok(made);
     }
     let mut aside = [0u32; listing::CELLS];
     let mut beside = [0u32; listing::CELLS];
@@ -53,11 +53,11 @@ fn fill(
         &mut beside,
     );
     if listed.len() < count {
-        return Listed::Refused(Refusal::NoRoom);
+        return Err(Refusal::NoRoom);
     }
     column::copy(&aside, count, listed);
     column::copy(&beside, count, contents);
-    Listed::Rows(count)
+    Ok(count)
 }
 
 // The list at t, into two lent columns: keys and values.
@@ -69,7 +69,7 @@ pub fn list(
     t: u64,
     listed: &mut [u32],
     contents: &mut [u32],
-) -> Listed
+) -> Result<usize, Refusal>
     ensures { ListedBy h keys.now values.now journal.now t listed.old contents.old (of_listed result) listed.new contents.new }
 {
     if !shaped(
@@ -80,13 +80,13 @@ pub fn list(
         listed.len(),
         contents.len(),
     ) {
-        return Listed::Refused(Refusal::BadShape);
+        return Err(Refusal::BadShape);
     }
     if t < h.low {
-        return Listed::Refused(Refusal::TooOld);
+        return Err(Refusal::TooOld);
     }
     if journal::times::is_future(journal, h.journal.used, h.low, t) {
-        return Listed::Refused(Refusal::Future);
+        return Err(Refusal::Future);
     }
     fill(h, keys, values, journal, t, listed, contents)
 }

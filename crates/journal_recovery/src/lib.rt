@@ -5,10 +5,10 @@ ghost use Rattle.std.specs.Prelude.{◌≡◌, ◌≤◌, length, take};
 ghost use Rattle.answer.specs.Reply.{of_done};
 ghost use Rattle.journal_store.specs.CallContracts.{rising_keys, is_recoverable, Recovered};
 
-use answer::{Done, Refusal};
+use answer::{Outcome, Refusal};
 use journal::{Base, Journal};
-use journal_store::{Head, Outcome};
-use rules::{Record, Walked};
+use journal_store::Head;
+use rules::Record;
 
 // Whether the first rows of a column strictly rise from 1.
 fn rises(keys: &[u32], rows: usize) -> bool
@@ -61,23 +61,23 @@ pub fn recover(
     values: &[u32],
     journal: &mut [u8],
     survived: usize,
-) -> Outcome
+) -> Outcome<Head, ()>
     ensures { Recovered h keys.now values.now journal.old survived (of_done result.answer) result.head journal.new }
 {
     if !shaped(h, keys, values.len(), journal.len(), survived) {
         return Outcome {
             head: h,
-            answer: Done::Refused(Refusal::BadShape),
+            answer: Err(Refusal::BadShape),
         };
     }
     let used = survived / Record::BYTES;
     let walked = walk::walk(journal, used, h.low);
     match walked {
-        Walked::BadAt(place) => Outcome {
+        Some(place) => Outcome {
             head: h,
-            answer: Done::Refused(Refusal::BadRecord(place)),
+            answer: Err(Refusal::BadRecord(place)),
         },
-        Walked::Whole => {
+        None => {
             let floor = journal::times::next(journal, used, h.floor);
             let kept = compact::keep_done(journal, used, h.low, survived);
             let base = h.base;
@@ -88,7 +88,7 @@ pub fn recover(
                     base,
                     journal: Journal { used: kept },
                 },
-                answer: Done::Accepted,
+                answer: Ok(()),
             }
         }
     }

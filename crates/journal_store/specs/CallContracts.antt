@@ -1,15 +1,12 @@
 -- The contracts of the calls: the answer, the head and every lent cell, for a store of any shape. Assumes nothing.
-use Rattle.std.specs.Prelude.{◌≡◌, Bool, true, cond, ◌&&◌, not, List, ◌++◌, [], ◌∷◌, ℕ, ◌*◌, ◌≤◌, ◌/◌, ◌<◌, eqb, ltb, leb, length, drop, take}
+use Rattle.std.specs.Prelude.{◌≡◌, Bool, true, cond, ◌&&◌, not, List, ◌++◌, [], ◌∷◌, ℕ, ◌*◌, ◌≤◌, ◌/◌, ◌<◌, eqb, ltb, leb, length, drop, take, Some, None, Option}
 use Rattle.rules.specs.declared.Record.{Record}
 use Rattle.rules.specs.Kinds.{record_size}
 use Rattle.rules.specs.Calls.{Store, Call, answer, record_of, gives, value_of, read_of, read_refusal, lookup_refusal, list_of, list_answer, checkpoint_answer, kept_of}
-use Rattle.rules.specs.declared.Value.TheVariants.{Absent, Present}
 use Rattle.rules.specs.Lists.{row_keys}
 use Rattle.rules.specs.Columns.{row_values, Filled}
 use Rattle.rules.specs.Values.{Row}
 use Rattle.rules.specs.Limits.{most_records, most_rows}
-use Rattle.rules.specs.declared.Walked.{Walked}
-use Rattle.rules.specs.declared.Walked.TheVariants.{Whole, BadAt}
 use Rattle.rules.specs.Recovery.{walk, survivors}
 use Rattle.record.specs.Bytes.{appended, records_in}
 use Rattle.answer.specs.declared.Refusal.TheVariants.{BadShape}
@@ -54,7 +51,7 @@ shaped_reply h keys values j decided =
 
 -- what a store of good shape answers where so many rows are lent
 abbrev pub list_decided : ℕ → ℕ → Store → Reply
-list_decided room t s = told (list_answer room t s) (Present (length (list_of t s)))
+list_decided room t s = told (list_answer room t s) (Some (length (list_of t s)))
 
 -- the shape test of list also asks that its own two columns are paired
 abbrev pub is_list_shaped : Head → ℕ → ℕ → ℕ → ℕ → ℕ → Bool
@@ -67,7 +64,7 @@ list_number h keys values j t listed contents =
 
 -- the count of rows; the columns with the rows at their front where the call is accepted, and as they were where it is refused
 pub record ListedBy (h : Head) (keys values j : List ℕ) (t : ℕ) (listed contents : List ℕ) (a : Reply) (listed' contents' : List ℕ) : Type 0 where
-  pub reply : a ≡ told (list_number h keys values j t (length listed) (length contents)) (Present (length (list_of t (meaning h keys values j))))
+  pub reply : a ≡ told (list_number h keys values j t (length listed) (length contents)) (Some (length (list_of t (meaning h keys values j))))
   pub keys_column :
       listed'
       ≡ after (list_number h keys values j t (length listed) (length contents))
@@ -85,7 +82,7 @@ checkpoint_number t h keys values j =
 -- where the call is accepted: the head, the rows of the list at the front of the base, the records kept at the front of the journal and zeros to
 -- the end of those that were used; where it is refused: all as it was
 pub record Checkpointed (t : ℕ) (h : Head) (keys values j : List ℕ) (a : Reply) (head : Head) (keys' values' exit : List ℕ) : Type 0 where
-  pub reply : a ≡ told (checkpoint_number t h keys values j) Absent
+  pub reply : a ≡ told (checkpoint_number t h keys values j) None
   pub headed : head ≡ after (checkpoint_number t h keys values j) (checkpoint_head t (meaning h keys values j)) h
   pub keys_column :
       keys'
@@ -127,9 +124,9 @@ abbrev pub surviving : ℕ → List ℕ → List Record
 surviving survived j = records_in (survived / record_size) j
 
 -- accepted, or refusal 13 with the place of the first record that fails
-abbrev pub walked_reply : Walked → Reply
-walked_reply Whole = accepted Absent
-walked_reply (BadAt i) = record { number = 13; value = Present i }
+abbrev pub walked_reply : Option ℕ → Reply
+walked_reply None = accepted None
+walked_reply (Some i) = record { number = 13; value = Some i }
 
 -- what recover answers
 abbrev pub recover_reply : Head → List ℕ → List ℕ → List ℕ → ℕ → Reply

@@ -1,5 +1,5 @@
 -- How a call's parts make its contract: what was decided on the meaning, then done to the cells if it was accepted. Assumes nothing.
-use Rattle.std.specs.Prelude.{◌≡◌, refl, Bool, true, false, cond, List, ◌++◌, ℕ, ◌+◌, ◌*◌, ◌≤◌, ◌<◌, eqb, length, drop}
+use Rattle.std.specs.Prelude.{◌≡◌, refl, Bool, true, false, cond, List, ◌++◌, ℕ, ◌+◌, ◌*◌, ◌≤◌, ◌<◌, eqb, length, drop, Some, None, Option}
 use Rattle.std.proofs.Common.{sym, ap, ◌∙◌, arith, eqb-true, le-leb}
 use Rattle.std.proofs.lemmas.Bool.{lt-leb}
 use Rattle.rules.specs.declared.Record.{Record}
@@ -7,11 +7,8 @@ use Rattle.rules.specs.Bools.{split}
 use Rattle.rules.specs.Kinds.{record_size}
 use Rattle.rules.specs.Passed.{fitting}
 use Rattle.rules.specs.Calls.{Store, Call, Begin, Update, Abort, Commit, refusal, need, answer, record_of, gives, list_of, list_answer, with_room, checkpoint_refusal, checkpoint_answer, kept_of}
-use Rattle.rules.specs.declared.Value.TheVariants.{Absent, Present}
 use Rattle.rules.specs.Lists.{row_keys}
 use Rattle.rules.specs.Columns.{row_values, Filled}
-use Rattle.rules.specs.declared.Walked.{Walked}
-use Rattle.rules.specs.declared.Walked.TheVariants.{Whole, BadAt}
 use Rattle.rules.specs.Recovery.{walk, survivors}
 use Rattle.record.specs.Bytes.{appended}
 use Rattle.answer.specs.declared.Refusal.TheVariants.{BadShape, NoRoom}
@@ -90,7 +87,7 @@ module _ (h : Head) (keys values j : List ℕ) (t : ℕ) (listed contents : List
       let s = meaning h keys values j in
       let q : list_number h keys values j t (length listed) (length contents) ≡ 1 = ap (λ (b : Bool). cond b (list_answer (length listed) t s) 1) e in
       record {
-        reply = sym (ap (λ (n : ℕ). told n (Present (length (list_of t s)))) q);
+        reply = sym (ap (λ (n : ℕ). told n (Some (length (list_of t s)))) q);
         keys_column = after_refused BadShape (list_number h keys values j t (length listed) (length contents)) (row_keys (list_of t s) ++ drop (length (list_of t s)) listed) listed q;
         values_column = after_refused BadShape (list_number h keys values j t (length listed) (length contents)) (row_values (list_of t s) ++ drop (length (list_of t s)) contents) contents q;
       }
@@ -100,8 +97,8 @@ module _ (h : Head) (keys values j : List ℕ) (t : ℕ) (listed contents : List
     list_counted : list_number h keys values j t (length listed) (length contents) ≡ a.number
     list_counted = ap (λ (b : Bool). cond b (list_answer (length listed) t (meaning h keys values j)) 1) shaped ∙ sym (ap (λ (r : Reply). r.number) d)
 
-    replied : a ≡ told (list_number h keys values j t (length listed) (length contents)) (Present (length (list_of t (meaning h keys values j))))
-    replied = d ∙ ap (λ (n : ℕ). told n (Present (length (list_of t (meaning h keys values j))))) (sym (ap (λ (r : Reply). r.number) d) ∙ sym list_counted)
+    replied : a ≡ told (list_number h keys values j t (length listed) (length contents)) (Some (length (list_of t (meaning h keys values j))))
+    replied = d ∙ ap (λ (n : ℕ). told n (Some (length (list_of t (meaning h keys values j))))) (sym (ap (λ (r : Reply). r.number) d) ∙ sym list_counted)
 
     pub list_filled : (listed' contents' : List ℕ) → eqb a.number 0 ≡ true → Filled (list_of t (meaning h keys values j)) listed contents listed' contents'
         → ListedBy h keys values j t listed contents a listed' contents'
@@ -116,7 +113,7 @@ module _ (h : Head) (keys values j : List ℕ) (t : ℕ) (listed contents : List
 
 module _ (t : ℕ) (h : Head) (keys values j : List ℕ) where
   -- a call that gets a refusal's number changes nothing
-  unchanged : (x : Refusal) → place_of x ≡ Absent → checkpoint_number t h keys values j ≡ number_of x
+  unchanged : (x : Refusal) → place_of x ≡ None → checkpoint_number t h keys values j ≡ number_of x
       → Checkpointed t h keys values j (refused x) h keys values j
   unchanged x p q =
       let s = meaning h keys values j in
@@ -136,7 +133,7 @@ module _ (t : ℕ) (h : Head) (keys values j : List ℕ) where
       unchanged BadShape refl (ap (λ (b : Bool). cond b (checkpoint_answer (row_room (length keys)) t (meaning h keys values j)) 1) e)
 
   module _ (shaped : is_shaped h (length keys) (length values) (length j) ≡ true) (a : Reply)
-      (d : a ≡ told (checkpoint_refusal t (meaning h keys values j)) Absent) where
+      (d : a ≡ told (checkpoint_refusal t (meaning h keys values j)) None) where
     turned : checkpoint_refusal t (meaning h keys values j) ≡ a.number
     turned = sym (ap (λ (r : Reply). r.number) d)
 
@@ -151,7 +148,7 @@ module _ (t : ℕ) (h : Head) (keys values j : List ℕ) where
         let q : checkpoint_number t h keys values j ≡ a.number = rw e at answered in
         let z : eqb (checkpoint_number t h keys values j) 0 ≡ false = rw q e in
         record {
-          reply = d ∙ ap (λ (n : ℕ). told n Absent) (turned ∙ sym q);
+          reply = d ∙ ap (λ (n : ℕ). told n None) (turned ∙ sym q);
           headed = rw z;
           keys_column = rw z;
           values_column = rw z;
@@ -166,7 +163,7 @@ module _ (t : ℕ) (h : Head) (keys values j : List ℕ) where
       pub checkpoint_written : (head : Head) (keys' values' exit : List ℕ) → n ≤ row_room (length keys)
           → head ≡ checkpoint_head t (meaning h keys values j) → Filled (list_of t (meaning h keys values j)) keys values keys' values'
           → exit ≡ compacted (kept_of t (meaning h keys values j)) (h.journal.used * record_size) j
-          → Checkpointed t h keys values j (accepted Absent) head keys' values' exit
+          → Checkpointed t h keys values j (accepted None) head keys' values' exit
       checkpoint_written head keys' values' exit l f g i =
           let z : checkpoint_number t h keys values j ≡ 0 = answered ∙ rw (e, ← q, le-leb n (row_room (length keys)) l) in
           record { reply = rw z; headed = rw z f; keys_column = rw z g.keys_column; values_column = rw z g.values_column; cells = rw z i }
@@ -181,13 +178,13 @@ module _ (h : Head) (keys values j : List ℕ) (survived : ℕ) where
   pub recover_bad : is_recoverable h keys (length values) (length j) survived ≡ false → Recovered h keys values j survived (refused BadShape) h j
   recover_bad e = left (refused BadShape) (rw e) refl
 
-  module _ (e : is_recoverable h keys (length values) (length j) survived ≡ true) (w : Walked) (d : w ≡ walk h.low (surviving survived j)) where
-    pub recover_refused : (i : ℕ) → w ≡ BadAt i → Recovered h keys values j survived (record { number = 13; value = Present i }) h j
-    recover_refused i f = left (record { number = 13; value = Present i }) (rw (e, sym d ∙ f)) refl
+  module _ (e : is_recoverable h keys (length values) (length j) survived ≡ true) (w : Option ℕ) (d : w ≡ walk h.low (surviving survived j)) where
+    pub recover_refused : (i : ℕ) → w ≡ Some i → Recovered h keys values j survived (record { number = 13; value = Some i }) h j
+    recover_refused i f = left (record { number = 13; value = Some i }) (rw (e, sym d ∙ f)) refl
 
-    pub recover_done : (head : Head) (exit : List ℕ) → w ≡ Whole → head ≡ recovered_head h (surviving survived j)
-        → exit ≡ compacted (survivors (surviving survived j)) survived j → Recovered h keys values j survived (accepted Absent) head exit
+    pub recover_done : (head : Head) (exit : List ℕ) → w ≡ None → head ≡ recovered_head h (surviving survived j)
+        → exit ≡ compacted (survivors (surviving survived j)) survived j → Recovered h keys values j survived (accepted None) head exit
     recover_done head exit f g i =
-        let q : recover_reply h keys values j survived ≡ accepted Absent = rw (e, sym d ∙ f) in
+        let q : recover_reply h keys values j survived ≡ accepted None = rw (e, sym d ∙ f) in
         let z : eqb (recover_reply h keys values j survived).number 0 ≡ true = ap (λ (r : Reply). eqb r.number 0) q in
         record { reply = sym q; headed = rw z g; cells = rw z i }

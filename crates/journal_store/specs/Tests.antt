@@ -1,12 +1,11 @@
 -- What the tests of a call, made in section 6's order, let it answer: on any store, one law for each way out. Assumes nothing.
-use Rattle.std.specs.Prelude.{◌≡◌, true, false, Bool, ℕ, ◌+◌, ◌<◌, ◌≤◌, ltb, length}
+use Rattle.std.specs.Prelude.{◌≡◌, true, false, Bool, ℕ, ◌+◌, ◌<◌, ◌≤◌, ltb, length, Some, None}
 use Rattle.std.proofs.Common.{sym, ap, ◌∙◌, lt-ltb, le-ltb, le-leb, eq-eqb, ne_eqb}
 use Rattle.std.proofs.lemmas.Bool.{lt-leb}
 use Rattle.rules.specs.Limits.{most_running, numbers_end}
-use Rattle.rules.specs.declared.Value.TheVariants.{Absent, Present}
 use Rattle.rules.specs.declared.Effect.{Effect}
 use Rattle.rules.specs.Calls.{Store, Call, Begin, Update, Abort, Commit, refusal, need, with_room, answer, gives, last_of, next_of, running_of, runs_in, may_write_in, conflict_in, value_of, read_of, list_of, list_answer, checkpoint_refusal, held_in}
-use Rattle.rules.specs.declared.Value.{Value}
+use Rattle.rules.specs.Value.{Value}
 use Rattle.answer.specs.Reply.{Reply, accepted, told}
 use Rattle.journal_store.specs.CallContracts.{Decided, read_decided, lookup_decided, list_decided}
 
@@ -45,7 +44,7 @@ module _ {room : ℕ} {s : Store} where
             pub begin_room : room < used + (2 + r) → Decided (Begin t) room s (told 12 (gives (Begin t) s))
             begin_room i = fits (Begin t) (begin_passes s t a b r m d n g h) u (rw (← m, lt-leb (used + (2 + r)) room i))
 
-            pub begin_begun : used + (2 + r) ≤ room → Decided (Begin t) room s (accepted (Present n))
+            pub begin_begun : used + (2 + r) ≤ room → Decided (Begin t) room s (accepted (Some n))
             begin_begun i = fits (Begin t) (begin_passes s t a b r m d n g h) u (rw (← m, le-leb (used + (2 + r)) room i, g))
 
   module _ {n : ℕ} where
@@ -60,7 +59,7 @@ module _ {room : ℕ} {s : Store} where
       commit_unknown {t} = say (Commit n t) 2 (rw f)
 
     module _ (f : runs_in n s ≡ true) where
-      pub abort_room : {used : ℕ} → length s.records ≡ used → {a : Reply} → a ≡ told (with_room 0 (used + 1) room) Absent → Decided (Abort n) room s a
+      pub abort_room : {used : ℕ} → length s.records ≡ used → {a : Reply} → a ≡ told (with_room 0 (used + 1) room) None → Decided (Abort n) room s a
       abort_room u g = fits (Abort n) (rw f) u g
 
       module _ {t l : ℕ} (g : l ≡ last_of s) where
@@ -71,7 +70,7 @@ module _ {room : ℕ} {s : Store} where
           pub commit_conflict : conflict_in n s ≡ true → Decided (Commit n t) room s (told 11 (gives (Commit n t) s))
           commit_conflict h = say (Commit n t) 11 (rw (f, ← g, lt-leb t l i, h))
 
-          pub commit_room : conflict_in n s ≡ false → {used : ℕ} → length s.records ≡ used → {a : Reply} → a ≡ told (with_room 0 (used + 1) room) Absent
+          pub commit_room : conflict_in n s ≡ false → {used : ℕ} → length s.records ≡ used → {a : Reply} → a ≡ told (with_room 0 (used + 1) room) None
               → Decided (Commit n t) room s a
           commit_room h u o = fits (Commit n t) (rw (f, ← g, lt-leb t l i, h)) u o
 
@@ -84,7 +83,7 @@ module _ {room : ℕ} {s : Store} where
           update_full h = say (Update n k x) 8 (rw (f, ne_eqb k 0 z, h))
 
           pub update_room : may_write_in n k s ≡ true → {r : ℕ} → r ≡ length (running_of s) → {used : ℕ} → length s.records ≡ used
-              → {a : Reply} → a ≡ told (with_room 0 (used + (1 + r)) room) Absent → Decided (Update n k x) room s a
+              → {a : Reply} → a ≡ told (with_room 0 (used + (1 + r)) room) None → Decided (Update n k x) room s a
           update_room h m u o = fits (Update n k x) (rw (f, ne_eqb k 0 z, h)) u (rw m at o)
 
 -- the ways out of a read
@@ -117,35 +116,35 @@ module _ (k t : ℕ) (s : Store) where
 
 -- the ways out of a list
 module _ (room t : ℕ) (s : Store) where
-  pub list_old : t < s.low → told 4 (Present (length (list_of t s))) ≡ list_decided room t s
+  pub list_old : t < s.low → told 4 (Some (length (list_of t s))) ≡ list_decided room t s
   list_old a = rw (lt-ltb t s.low a)
 
   module _ (a : s.low ≤ t) (f : Bool) (e : f ≡ ltb (last_of s) t) where
-    pub list_future : f ≡ true → told 5 (Present (length (list_of t s))) ≡ list_decided room t s
+    pub list_future : f ≡ true → told 5 (Some (length (list_of t s))) ≡ list_decided room t s
     list_future b = rw (le-ltb t s.low a, sym e ∙ b)
 
     module _ (b : f ≡ false) (n : ℕ) (g : n ≡ length (list_of t s)) where
-      list_number : (m : ℕ) → list_answer room t s ≡ m → told m (Present (length (list_of t s))) ≡ list_decided room t s
-      list_number m q = sym (ap (λ (x : ℕ). told x (Present (length (list_of t s)))) q)
+      list_number : (m : ℕ) → list_answer room t s ≡ m → told m (Some (length (list_of t s))) ≡ list_decided room t s
+      list_number m q = sym (ap (λ (x : ℕ). told x (Some (length (list_of t s)))) q)
 
-      pub list_room : room < n → told 12 (Present (length (list_of t s))) ≡ list_decided room t s
+      pub list_room : room < n → told 12 (Some (length (list_of t s))) ≡ list_decided room t s
       list_room h = list_number 12 (rw (le-ltb t s.low a, sym e ∙ b, ← g, lt-leb n room h))
 
-      pub list_rows : n ≤ room → accepted (Present n) ≡ list_decided room t s
-      list_rows h = ap (λ (x : ℕ). accepted (Present x)) g ∙ list_number 0 (rw (le-ltb t s.low a, sym e ∙ b, ← g, le-leb n room h))
+      pub list_rows : n ≤ room → accepted (Some n) ≡ list_decided room t s
+      list_rows h = ap (λ (x : ℕ). accepted (Some x)) g ∙ list_number 0 (rw (le-ltb t s.low a, sym e ∙ b, ← g, le-leb n room h))
 
 -- the ways out of a checkpoint before the room
 module _ (t : ℕ) (s : Store) where
-  pub checkpoint_old : t < s.low → told 4 Absent ≡ told (checkpoint_refusal t s) Absent
+  pub checkpoint_old : t < s.low → told 4 None ≡ told (checkpoint_refusal t s) None
   checkpoint_old a = rw (lt-ltb t s.low a)
 
   module _ (a : s.low ≤ t) (i : Bool) (e : i ≡ ltb (last_of s) t) where
-    pub checkpoint_future : i ≡ true → told 5 Absent ≡ told (checkpoint_refusal t s) Absent
+    pub checkpoint_future : i ≡ true → told 5 None ≡ told (checkpoint_refusal t s) None
     checkpoint_future b = rw (le-ltb t s.low a, sym e ∙ b)
 
     module _ (b : i ≡ false) (d : Bool) (g : d ≡ held_in t s) where
-      pub checkpoint_held : d ≡ true → told 9 Absent ≡ told (checkpoint_refusal t s) Absent
+      pub checkpoint_held : d ≡ true → told 9 None ≡ told (checkpoint_refusal t s) None
       checkpoint_held f = rw (le-ltb t s.low a, sym e ∙ b, sym g ∙ f)
 
-      pub checkpoint_clear : d ≡ false → told 0 Absent ≡ told (checkpoint_refusal t s) Absent
+      pub checkpoint_clear : d ≡ false → told 0 None ≡ told (checkpoint_refusal t s) None
       checkpoint_clear f = rw (le-ltb t s.low a, sym e ∙ b, sym g ∙ f)

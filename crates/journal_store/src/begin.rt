@@ -6,8 +6,8 @@ ghost use Rattle.answer.specs.Reply.{of_begun};
 ghost use Rattle.journal_store.specs.Shape.{Shaped, meaning, room_of};
 ghost use Rattle.journal_store.specs.CallContracts.{Decided, Wrote};
 
-use crate::{Head, Started};
-use answer::{Begun, Refusal};
+use crate::Head;
+use answer::{Outcome, Refusal};
 use journal::Journal;
 use rules::Record;
 
@@ -26,42 +26,42 @@ fn begun(n: u32, t: u64) -> Record
 }
 
 // What a store of good shape answers.
-fn decide(h: Head, keys: &[u32], values: &[u32], journal: &[u8], t: u64) -> Begun
+fn decide(h: Head, keys: &[u32], values: &[u32], journal: &[u8], t: u64) -> Result<u32, Refusal>
     requires { Shaped h (length keys.now) (length values.now) (length journal.now) }
     ensures { Decided (Begin t) (room_of (length journal.now)) (meaning h keys.now values.now journal.now) (of_begun result) }
 {
     let used = h.journal.used;
     if t < h.low {
-        return Begun::Refused(Refusal::TooOld);
+        return Err(Refusal::TooOld);
     }
     if journal::times::is_future(journal, used, h.low, t) {
-        return Begun::Refused(Refusal::Future);
+        return Err(Refusal::Future);
     }
     let running = journal::transactions::count_running(journal, used);
     if Journal::RUNNING <= running {
-        return Begun::Refused(Refusal::TooMany);
+        return Err(Refusal::TooMany);
     }
     let next = journal::times::next(journal, used, h.floor);
     if Journal::NO_NUMBER <= next {
-        return Begun::Refused(Refusal::NoNumbers);
+        return Err(Refusal::NoNumbers);
     }
     if crate::room(journal.len()) < used + (2 + running) {
-        return Begun::Refused(Refusal::NoRoom);
+        return Err(Refusal::NoRoom);
     }
-    Begun::Number(next)
+    Ok(next)
 }
 
 // Begins a transaction that reads as of t, and answers its number.
-pub fn begin(h: Head, keys: &[u32], values: &[u32], journal: &mut [u8], t: u64) -> Started
+pub fn begin(h: Head, keys: &[u32], values: &[u32], journal: &mut [u8], t: u64) -> Outcome<Head, u32>
     ensures { Wrote (Begin t) h keys.now values.now journal.old (of_begun result.answer) result.head journal.new }
 {
     if !crate::shaped(h, keys.len(), values.len(), journal.len()) {
-        return Started {
+        return Outcome {
             head: h,
-            answer: Begun::Refused(Refusal::BadShape),
+            answer: Err(Refusal::BadShape),
         };
     }
     let answer = decide(h, keys, values, journal, t);
-    let head = crate::put(h, journal, answer.accepted(), begun(answer.number(), t));
-    Started { head, answer }
+    let head = crate::put(h, journal, answer.is_ok(), begun(answer.number(), t));
+    Outcome { head, answer }
 }

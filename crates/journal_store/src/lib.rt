@@ -3,7 +3,6 @@
 #![tactic(auto)]
 
 ghost use Rattle.std.specs.Prelude.{◌≡◌, true, ◌+◌, ◌≤◌, length};
-ghost use Rattle.rules.specs.declared.Value.TheVariants.{Absent};
 ghost use Rattle.rules.specs.Limits.{most_records};
 ghost use Rattle.rules.specs.Calls.{with_room};
 ghost use Rattle.answer.specs.Reply.{of_done, told};
@@ -11,7 +10,7 @@ ghost use Rattle.journal_store.specs.Shape.{empty_head, is_shaped, room_of};
 ghost use Rattle.journal_store.specs.Heads.{grown};
 ghost use Rattle.journal_store.specs.CallContracts.{Put};
 
-use answer::{Begun, Done, Refusal};
+use answer::Refusal;
 use journal::{Base, Journal};
 use rules::Record;
 
@@ -61,20 +60,6 @@ impl Head {
     }
 }
 
-// What begin returns: the head and its answer.
-#[derive(Clone, Copy)]
-pub struct Started {
-    pub head: Head,
-    pub answer: Begun,
-}
-
-// What update, abort, commit, checkpoint and recover return: the head and the answer.
-#[derive(Clone, Copy)]
-pub struct Outcome {
-    pub head: Head,
-    pub answer: Done,
-}
-
 // Section 6, number 1, the same for every call but recover: counts within limits and lent room, paired columns, floor not 0.
 pub fn shaped(h: Head, keys: usize, values: usize, bytes: usize) -> bool
     ensures { result ≡ is_shaped h keys values bytes }
@@ -111,13 +96,13 @@ fn room(bytes: usize) -> usize
 }
 
 // The last test of update, abort and commit: so many records fit.
-fn with_room(bytes: usize, wanted: usize) -> Done
+fn with_room(bytes: usize, wanted: usize) -> Result<(), Refusal>
     ensures { of_done result ≡ told (with_room 0 wanted (room_of bytes)) Absent }
 {
     if room(bytes) < wanted {
-        return Done::Refused(Refusal::NoRoom);
+        return Err(Refusal::NoRoom);
     }
-    Done::Accepted
+    Ok(())
 }
 
 // The record of an accepted call goes into the unused end of the journal; a refused call changes nothing.

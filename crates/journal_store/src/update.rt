@@ -5,8 +5,8 @@ ghost use Rattle.answer.specs.Reply.{of_done};
 ghost use Rattle.journal_store.specs.Shape.{Shaped, meaning, room_of};
 ghost use Rattle.journal_store.specs.CallContracts.{Decided, Wrote};
 
-use crate::{Head, Outcome};
-use answer::{Done, Refusal};
+use crate::Head;
+use answer::{Outcome, Refusal};
 use rules::{Effect, Record};
 
 // The record that it writes: kind 2 assigns, kind 3 adds.
@@ -34,19 +34,19 @@ fn updated(n: u32, k: u32, e: Effect) -> Record
 }
 
 // What a store of good shape answers.
-fn decide(h: Head, keys: &[u32], values: &[u32], journal: &[u8], n: u32, k: u32, e: Effect) -> Done
+fn decide(h: Head, keys: &[u32], values: &[u32], journal: &[u8], n: u32, k: u32, e: Effect) -> Result<(), Refusal>
     requires { Shaped h (length keys.now) (length values.now) (length journal.now) }
     ensures { Decided (Update n k e) (room_of (length journal.now)) (meaning h keys.now values.now journal.now) (of_done result) }
 {
     let used = h.journal.used;
     if !journal::transactions::runs(journal, used, n) {
-        return Done::Refused(Refusal::UnknownTransaction);
+        return Err(Refusal::UnknownTransaction);
     }
     if k == 0 {
-        return Done::Refused(Refusal::BadKey);
+        return Err(Refusal::BadKey);
     }
     if !conflict::may_write(journal, used, n, k) {
-        return Done::Refused(Refusal::KeysFull);
+        return Err(Refusal::KeysFull);
     }
     let running = journal::transactions::count_running(journal, used);
     crate::with_room(journal.len(), used + (1 + running))
@@ -61,16 +61,16 @@ pub fn update(
     n: u32,
     k: u32,
     e: Effect,
-) -> Outcome
+) -> Outcome<Head, ()>
     ensures { Wrote (Update n k e) h keys.now values.now journal.old (of_done result.answer) result.head journal.new }
 {
     if !crate::shaped(h, keys.len(), values.len(), journal.len()) {
         return Outcome {
             head: h,
-            answer: Done::Refused(Refusal::BadShape),
+            answer: Err(Refusal::BadShape),
         };
     }
     let answer = decide(h, keys, values, journal, n, k, e);
-    let head = crate::put(h, journal, answer.accepted(), updated(n, k, e));
+    let head = crate::put(h, journal, answer.is_ok(), updated(n, k, e));
     Outcome { head, answer }
 }

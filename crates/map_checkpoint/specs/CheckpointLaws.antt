@@ -1,7 +1,6 @@
 -- How the parts of a checkpoint make its contract: a law for each way out. Assumes nothing.
-use Rattle.std.specs.Prelude.{◌≡◌, refl, Bool, true, false, ℕ, eqb}
+use Rattle.std.specs.Prelude.{◌≡◌, refl, Bool, true, false, ℕ, eqb, None}
 use Rattle.std.proofs.Common.{sym}
-use Rattle.rules.specs.declared.Value.TheVariants.{Absent}
 use Rattle.answer.specs.declared.Refusal.{Refusal}
 use Rattle.answer.specs.declared.Refusal.TheVariants.{BadShape}
 use Rattle.answer.specs.declared.Done.TheVariants as done
@@ -23,31 +22,31 @@ module _ (t : ℕ) (h : MapHead) (cs : Columns) where
   checkpoint_bad_shape e =
       let q = number_bad h cs (checkpoint_refusal t) e in
       record {
-        reply = say 1 (checkpoint_number t h cs) Absent q;
+        reply = say 1 (checkpoint_number t h cs) None q;
         headed = after_refused BadShape (checkpoint_number t h cs) _ h q;
         cells = after_refused BadShape (checkpoint_number t h cs) _ cs q;
       }
 
-  pub checkpointed : is_shaped h (lengths cs) ≡ true → (a : Reply) → a ≡ told (checkpoint_refusal t (meaning h cs)) Absent
+  pub checkpointed : is_shaped h (lengths cs) ≡ true → (a : Reply) → a ≡ told (checkpoint_refusal t (meaning h cs)) None
       → (accepted : Bool) → accepted ≡ eqb a.number 0 → (head : MapHead) (cs' : Columns)
       → Thinned t h cs accepted head cs' → Checkpointed t h cs a head cs'
   checkpointed shaped a d accepted y head cs' p =
       let q = number_good h cs (checkpoint_refusal t) shaped in
       record {
-        reply = replied _ _ Absent q a d;
-        headed = changed _ _ Absent q a d accepted y _ _ head p.headed;
-        cells = changed _ _ Absent q a d accepted y _ _ cs' p.cells;
+        reply = replied _ _ None q a d;
+        headed = changed _ _ None q a d accepted y _ _ head p.headed;
+        cells = changed _ _ None q a d accepted y _ _ cs' p.cells;
       }
 
   module _ (shaped : is_shaped h (lengths cs) ≡ true) where
     pub checkpoint_turned_down : (o : Outcome) (x : Refusal) → (o.head ≡ h) × (o.answer ≡ done.Refused x)
-        → refused x ≡ told (checkpoint_refusal t (meaning h cs)) Absent → Checkpointed t h cs (of_done o.answer) o.head cs
+        → refused x ≡ told (checkpoint_refusal t (meaning h cs)) None → Checkpointed t h cs (of_done o.answer) o.head cs
     checkpoint_turned_down o x r d =
         rw (r.0, r.1)
         (checkpointed shaped (refused x) d false (sym (refused_some x)) h cs (record { headed = refl; cells = refl }))
 
-    pub checkpoint_carried_out : (cs' : Columns) (r : ℕ) → accepted Absent ≡ told (checkpoint_refusal t (meaning h cs)) Absent
+    pub checkpoint_carried_out : (cs' : Columns) (r : ℕ) → accepted None ≡ told (checkpoint_refusal t (meaning h cs)) None
         → Kept t h.used cs cs' r
-        → Checkpointed t h cs (accepted Absent) (record { low = t; last = h.last; next = h.next; used = r; slots = h.slots }) cs'
+        → Checkpointed t h cs (accepted None) (record { low = t; last = h.last; next = h.next; used = r; slots = h.slots }) cs'
     checkpoint_carried_out cs' r d w =
-        checkpointed shaped (accepted Absent) d true refl _ cs' (record { headed = rw w.count; cells = w.cells })
+        checkpointed shaped (accepted None) d true refl _ cs' (record { headed = rw w.count; cells = w.cells })

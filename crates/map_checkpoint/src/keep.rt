@@ -5,7 +5,6 @@ ghost use Rattle.versions.specs.Versions.{Columns, columns, keyed, version_at, v
 ghost use Rattle.versions.specs.Columns.{Spans, picked, Moved, cleared, Kept};
 ghost use Rattle.table.specs.Table.{Spare};
 
-use column::Found;
 use versions::Version;
 
 // Picks those of the first rows that are after t.
@@ -39,10 +38,10 @@ fn pick_zero(keys: &[u32], times: &[u64], used: usize, t: u64, picks: &mut [bool
 {
     let found = versions::newest_row(keys, times, used, 0, t);
     match found {
-        Found::At(j) => {
+        Some(j) => {
             picks[j] = true;
         }
-        Found::Nothing => {}
+        None => {}
     }
 }
 

@@ -7,8 +7,8 @@ ghost use Rattle.answer.specs.Reply.{of_done};
 ghost use Rattle.versions.specs.Versions.{columns};
 ghost use Rattle.map_store.specs.CallContracts.{Checkpointed};
 
-use answer::{Done, Refusal};
-use map_store::{MapHead, Outcome};
+use answer::{Outcome, Refusal};
+use map_store::MapHead;
 
 // A checkpoint at t: low becomes t. Kept are the versions after t and, for each key, its newest at or before t.
 pub fn checkpoint(
@@ -18,7 +18,7 @@ pub fn checkpoint(
     values: &mut [u32],
     marks: &mut [u8],
     t: u64,
-) -> Outcome
+) -> Outcome<MapHead, ()>
     ensures { Checkpointed t h (columns keys.old times.old values.old marks.old) (of_done result.answer) result.head (columns keys.new times.new values.new marks.new) }
 {
     if !map_store::shaped(h, keys.len(), times.len(), values.len(), marks.len()) {
@@ -43,6 +43,6 @@ pub fn checkpoint(
             used: used,
             slots: slots,
         },
-        answer: Done::Accepted,
+        answer: Ok(()),
     }
 }

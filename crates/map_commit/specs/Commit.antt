@@ -1,6 +1,6 @@
 -- What the parts of a commit make of the head and the columns. Assumes nothing.
 use Rattle.std.specs.Prelude.{◌≡◌, Bool, cond, not, List, ℕ, ◌+◌, length, get_or}
-use Rattle.rules.specs.declared.Value.{Value}
+use Rattle.rules.specs.Value.{Value}
 use Rattle.slot.specs.declared.Slot.{Slot}
 use Rattle.slot.specs.Slot.{effect_at}
 use Rattle.slot.specs.Slots.{slot_of}

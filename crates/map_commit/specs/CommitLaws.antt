@@ -1,9 +1,8 @@
 -- How the parts of a commit make its contract: a law for each way out. Assumes nothing.
-use Rattle.std.specs.Prelude.{◌≡◌, refl, Bool, true, false, ℕ, ◌+◌, ◌≤◌, eqb, length}
+use Rattle.std.specs.Prelude.{◌≡◌, refl, Bool, true, false, ℕ, ◌+◌, ◌≤◌, eqb, length, None}
 use Rattle.std.proofs.Common.{sym, arith}
 use Rattle.std.proofs.Math.Nat.{min-le_right}
 use Rattle.rules.specs.Limits.{most_versions}
-use Rattle.rules.specs.declared.Value.TheVariants.{Absent}
 use Rattle.rules.specs.Calls.{Commit}
 use Rattle.answer.specs.declared.Refusal.{Refusal}
 use Rattle.answer.specs.declared.Refusal.TheVariants.{BadShape}
@@ -40,12 +39,12 @@ module _ {n t : ℕ} {h : MapHead} {cs : Columns} where
         → {head : MapHead} {cs' : Columns} → Put n t h cs accepted head cs' → Committed n t h cs a head cs'
     committed {a} d {accepted} y {head} {cs'} p =
         let q = number_good h cs (map_answer (room_of (length cs.keys)) (Commit n t)) shaped in
-        record { answered = answered shaped d y p.headed; cells = changed _ _ Absent q a d.reply accepted y _ _ cs' p.cells }
+        record { answered = answered shaped d y p.headed; cells = changed _ _ None q a d.reply accepted y _ _ cs' p.cells }
 
     pub commit_turned_down : (o : Outcome) (x : Refusal) → (o.head ≡ h) × (o.answer ≡ done.Refused x)
         → Decided (Commit n t) (room_of (length cs.keys)) (meaning h cs) (refused x) → Committed n t h cs (of_done o.answer) o.head cs
     commit_turned_down o x r d = rw (r.0, r.1) (committed d {accepted = false} (sym (refused_some x)) (record { headed = refl; cells = refl }))
 
-    pub commit_carried_out : {head : MapHead} {cs' : Columns} → Decided (Commit n t) (room_of (length cs.keys)) (meaning h cs) (accepted Absent)
-        → Put n t h cs true head cs' → Committed n t h cs (accepted Absent) head cs'
+    pub commit_carried_out : {head : MapHead} {cs' : Columns} → Decided (Commit n t) (room_of (length cs.keys)) (meaning h cs) (accepted None)
+        → Put n t h cs true head cs' → Committed n t h cs (accepted None) head cs'
     commit_carried_out d p = committed d refl p

@@ -2,7 +2,7 @@
 use Rattle.std.specs.Prelude.{◌≡◌, refl, true, false, List, [], ◌∷◌, ℕ, zero, suc, ◌+◌, ◌≤◌, ◌<◌, eqb, length, get_or, set, take}
 use Rattle.std.proofs.Common.{◌∙◌, le_refl, add-one, arith, get_or-set_other, eqb-true}
 use Rattle.std.proofs.lemmas.Bool.{eqb-false, not-true, not-false}
-use Rattle.rules.specs.declared.Value.{Value}
+use Rattle.rules.specs.Value.{Value}
 use Rattle.rules.specs.Bools.{split, or_left, or_right}
 use Rattle.rules.specs.Effects.{is_add}
 use Rattle.column.specs.Column.{first_row}

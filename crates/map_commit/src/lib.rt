@@ -12,9 +12,8 @@ ghost use Rattle.map_store.specs.Shape.{room_of};
 ghost use Rattle.map_store.specs.CallContracts.{Committed};
 ghost use Rattle.map_commit.specs.Commit.{row_at, is_first, newest_in, Stamped};
 
-use answer::{Done, Refusal};
-use column::Found;
-use map_store::{MapHead, Outcome};
+use answer::{Outcome, Refusal};
+use map_store::MapHead;
 use slot::Slot;
 use versions::Version;
 
@@ -36,8 +35,8 @@ fn is_first(s: Slot, i: usize) -> bool
     let written = s.keys;
     let k = written[i];
     match column::find(&written, i, k) {
-        Found::At(_) => false,
-        Found::Nothing => true,
+        Some(_) => false,
+        None => true,
     }
 }
 
@@ -109,7 +108,7 @@ fn version(
     Version {
         key: k,
         time: t,
-        value: value.or_zero(),
+        value: value.unwrap_or(0),
         mark: e.mark(),
     }
 }
@@ -151,7 +150,7 @@ pub fn commit(
     marks: &mut [u8],
     n: u32,
     t: u64,
-) -> Outcome
+) -> Outcome<MapHead, ()>
     ensures { Committed n t h (columns keys.old times.old values.old marks.old) (of_done result.answer) result.head (columns keys.new times.new values.new marks.new) }
 {
     if !map_store::shaped(h, keys.len(), times.len(), values.len(), marks.len()) {
@@ -159,7 +158,7 @@ pub fn commit(
     }
     let slots = h.slots;
     let found = slots.find(n);
-    let Found::At(i) = found else {
+    let Some(i) = found else {
         return map_store::refused(h, Refusal::UnknownTransaction);
     };
     if t <= h.last {
@@ -181,6 +180,6 @@ pub fn commit(
             used: used,
             slots: slots.closed(i),
         },
-        answer: Done::Accepted,
+        answer: Ok(()),
     }
 }

@@ -1,6 +1,5 @@
 -- What the parts of a list make of its columns. Assumes nothing.
-use Rattle.std.specs.Prelude.{◌≡◌, Bool, cond, List, ◌++◌, ℕ, eqb, length, drop}
-use Rattle.rules.specs.declared.Value.TheVariants.{Present}
+use Rattle.std.specs.Prelude.{◌≡◌, Bool, cond, List, ◌++◌, ℕ, eqb, length, drop, Some}
 use Rattle.rules.specs.Values.{Row}
 use Rattle.rules.specs.Lists.{row_keys}
 use Rattle.rules.specs.Columns.{row_values}
@@ -14,5 +13,5 @@ pub record FilledIf (rows : List Row) (oks ovs : List ℕ) (accepted : Bool) (ok
 
 -- list, where the shape and the time are good: the rows are counted, and written where there is room for them
 pub record ListedIn (rows : List Row) (oks ovs : List ℕ) (a : Reply) (oks' ovs' : List ℕ) : Type 0 where
-  pub reply : a ≡ told (with_room 0 (length rows) (length oks)) (Present (length rows))
+  pub reply : a ≡ told (with_room 0 (length rows) (length oks)) (Some (length rows))
   pub written : FilledIf rows oks ovs (eqb a.number 0) oks' ovs'

@@ -1,7 +1,6 @@
 -- How the parts of a list make its contract: a law for each way out. Assumes nothing.
-use Rattle.std.specs.Prelude.{◌≡◌, refl, Bool, true, false, List, ℕ, ◌≤◌, eqb, length}
+use Rattle.std.specs.Prelude.{◌≡◌, refl, Bool, true, false, List, ℕ, ◌≤◌, eqb, length, Some}
 use Rattle.std.proofs.Common.{sym}
-use Rattle.rules.specs.declared.Value.TheVariants.{Present}
 use Rattle.answer.specs.declared.Refusal.{Refusal}
 use Rattle.answer.specs.declared.Refusal.TheVariants.{BadShape}
 use Rattle.answer.specs.Reply.{Reply, refused, told}
@@ -33,7 +32,7 @@ module _ (t : ℕ) (h : MapHead) (cs : Columns) (oks ovs : List ℕ) where
     list_bad_shape e = list_turned (rw paired (number_bad h cs (list_answer (length oks) t) e))
 
     module _ (shaped : is_shaped h (lengths cs) ≡ true) (a : Reply)
-        (d : a ≡ told (list_answer (length oks) t (meaning h cs)) (Present (length (list_at (versions_of h.used cs) t))))
+        (d : a ≡ told (list_answer (length oks) t (meaning h cs)) (Some (length (list_at (versions_of h.used cs) t))))
         (accepted : Bool) (y : accepted ≡ eqb a.number 0) where
       pub listed : (oks' ovs' : List ℕ) → FilledIf (list_at (versions_of h.used cs) t) oks ovs accepted oks' ovs'
           → ListedAt t h cs oks ovs a oks' ovs'
@@ -48,7 +47,7 @@ module _ (t : ℕ) (h : MapHead) (cs : Columns) (oks ovs : List ℕ) where
 
     module _ (shaped : is_shaped h (lengths cs) ≡ true) where
       -- a time that is refused changes nothing
-      pub list_untimely : (x : Refusal) → refused x ≡ told (list_answer (length oks) t (meaning h cs)) (Present (length (list_at (versions_of h.used cs) t)))
+      pub list_untimely : (x : Refusal) → refused x ≡ told (list_answer (length oks) t (meaning h cs)) (Some (length (list_at (versions_of h.used cs) t)))
           → ListedAt t h cs oks ovs (refused x) oks ovs
       list_untimely x d = listed shaped (refused x) d false (sym (refused_some x)) oks ovs (record { keys = refl; values = refl })
 

@@ -8,7 +8,7 @@ ghost use Rattle.table.specs.Table.{Spare};
 ghost use Rattle.map_store.specs.CallContracts.{ListedAt};
 ghost use Rattle.map_list.specs.List.{ListedIn};
 
-use answer::{Listed, Refusal};
+use answer::Refusal;
 use map_store::MapHead;
 use versions::Version;
 
@@ -23,17 +23,17 @@ fn write(
     contents: &mut [u32],
     out_keys: &mut [u32],
     out_values: &mut [u32],
-) -> Listed
+) -> Result<usize, Refusal>
     requires { (used ≤ length keys.now) × (used ≤ length times.now) × (used ≤ length values.now) × (used ≤ Version.ROWS) × Spare listed.old contents.old used × (length out_keys.old ≡ length out_values.old) }
     ensures { (marks : List ℕ) → ListedIn (list_at (versions_of used (columns keys.now times.now values.now marks)) t) out_keys.old out_values.old (of_listed result) out_keys.new out_values.new }
 {
     let count = newest::listing(keys, times, values, used, t, listed, contents);
     if out_keys.len() < count {
-        return Listed::Refused(Refusal::NoRoom);
+        return Err(Refusal::NoRoom);
     }
     column::copy(listed, count, out_keys);
     column::copy(contents, count, out_values);
-    Listed::Rows(count)
+    Ok(count)
 }
 
 // The same with columns of its own: for few versions small ones are enough.
@@ -45,7 +45,7 @@ fn write_any(
     t: u64,
     out_keys: &mut [u32],
     out_values: &mut [u32],
-) -> Listed
+) -> Result<usize, Refusal>
     requires { (used ≤ length keys.now) × (used ≤ length times.now) × (used ≤ length values.now) × (used ≤ Version.ROWS) × (length out_keys.old ≡ length out_values.old) }
     ensures { (marks : List ℕ) → ListedIn (list_at (versions_of used (columns keys.now times.now values.now marks)) t) out_keys.old out_values.old (of_listed result) out_keys.new out_values.new }
 {
@@ -89,20 +89,20 @@ pub fn list(
     t: u64,
     out_keys: &mut [u32],
     out_values: &mut [u32],
-) -> Listed
+) -> Result<usize, Refusal>
     ensures { ListedAt t h (columns keys.now times.now values.now marks.now) out_keys.old out_values.old (of_listed result) out_keys.new out_values.new }
 {
     if out_keys.len() != out_values.len() {
-        return Listed::Refused(Refusal::BadShape);
+        return Err(Refusal::BadShape);
     }
     if !map_store::shaped(h, keys.len(), times.len(), values.len(), marks.len()) {
-        return Listed::Refused(Refusal::BadShape);
+        return Err(Refusal::BadShape);
     }
     if t < h.low {
-        return Listed::Refused(Refusal::TooOld);
+        return Err(Refusal::TooOld);
     }
     if h.last < t {
-        return Listed::Refused(Refusal::Future);
+        return Err(Refusal::Future);
     }
     write_any(keys, times, values, h.used, t, out_keys, out_values)
 }

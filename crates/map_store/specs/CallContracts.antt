@@ -1,6 +1,5 @@
 -- The contracts of the calls: the answer, the head and every lent column, for a store of any shape. Assumes nothing.
-use Rattle.std.specs.Prelude.{◌≡◌, cond, List, ◌++◌, ℕ, eqb, length, drop}
-use Rattle.rules.specs.declared.Value.TheVariants.{Absent, Present}
+use Rattle.std.specs.Prelude.{◌≡◌, cond, List, ◌++◌, ℕ, eqb, length, drop, Some, None}
 use Rattle.rules.specs.Lists.{row_keys}
 use Rattle.rules.specs.Columns.{row_values}
 use Rattle.rules.specs.Calls.{Call, Commit}
@@ -49,7 +48,7 @@ list_number t h cs oks ovs =
 
 -- list: the count of rows, and the rows in front of what stood in its columns
 pub record ListedAt (t : ℕ) (h : MapHead) (cs : Columns) (oks ovs : List ℕ) (a : Reply) (oks' ovs' : List ℕ) : Type 0 where
-  pub reply : a ≡ told (list_number t h cs oks ovs) (Present (length (list_at (versions_of h.used cs) t)))
+  pub reply : a ≡ told (list_number t h cs oks ovs) (Some (length (list_at (versions_of h.used cs) t)))
   pub keys : oks' ≡ after (list_number t h cs oks ovs) (row_keys (list_at (versions_of h.used cs) t) ++ drop (length (list_at (versions_of h.used cs) t)) oks) oks
   pub values : ovs' ≡ after (list_number t h cs oks ovs) (row_values (list_at (versions_of h.used cs) t) ++ drop (length (list_at (versions_of h.used cs) t)) ovs) ovs
 
@@ -59,6 +58,6 @@ checkpoint_number t h cs = shaped_number h cs (checkpoint_refusal t)
 
 -- checkpoint: the versions kept stand in front, in order, the freed rows are zero
 pub record Checkpointed (t : ℕ) (h : MapHead) (cs : Columns) (a : Reply) (head : MapHead) (cs' : Columns) : Type 0 where
-  pub reply : a ≡ told (checkpoint_number t h cs) Absent
+  pub reply : a ≡ told (checkpoint_number t h cs) None
   pub headed : head ≡ after (checkpoint_number t h cs) (kept_head t h (versions_of h.used cs)) h
   pub cells : cs' ≡ after (checkpoint_number t h cs) (thinned t h.used cs) cs

@@ -1,10 +1,8 @@
 -- What accepted calls make of the head and of the version columns, cell by cell. Assumes nothing.
-use Rattle.std.specs.Prelude.{List, [], ◌∷◌, ℕ, ◌+◌, length}
+use Rattle.std.specs.Prelude.{List, [], ◌∷◌, ℕ, ◌+◌, length, Option, Some, None}
 use Rattle.rules.specs.declared.Effect.{Effect}
-use Rattle.rules.specs.declared.Value.{Value}
+use Rattle.rules.specs.Value.{Value}
 use Rattle.rules.specs.Calls.{Call, Begin, Update, Abort, Commit}
-use Rattle.column.specs.declared.Found.{Found}
-use Rattle.column.specs.declared.Found.TheVariants.{At, Nothing}
 use Rattle.slot.specs.declared.Slots.{Slots}
 use Rattle.slot.specs.Slots.{slot_of, opened_in, noted_in, closed_in}
 use Rattle.slot.specs.Places.{Note, place_in}
@@ -24,24 +22,24 @@ begun_head t h =
     record { low = h.low; last = h.last; next = h.next + 1; used = h.used; slots = opened_in h.slots h.next t }
 
 -- update: it is noted in the slot that was found
-abbrev pub updated_head : ℕ → Effect → Found → MapHead → MapHead
-updated_head k e (At i) h = with_slots h (noted_in h.slots i k e)
-updated_head k e Nothing h = h
+abbrev pub updated_head : ℕ → Effect → Option ℕ → MapHead → MapHead
+updated_head k e (Some i) h = with_slots h (noted_in h.slots i k e)
+updated_head k e None h = h
 
 -- abort: the slot that was found is freed
-abbrev pub aborted_head : Found → MapHead → MapHead
-aborted_head (At i) h = with_slots h (closed_in h.slots i)
-aborted_head Nothing h = h
+abbrev pub aborted_head : Option ℕ → MapHead → MapHead
+aborted_head (Some i) h = with_slots h (closed_in h.slots i)
+aborted_head None h = h
 
 -- the rows that the slot that was found gives a commit
-abbrev pub rows_in : Slots → Found → List Note
+abbrev pub rows_in : Slots → Option ℕ → List Note
 rows_in s f = rows_at (place_in s f)
 
 -- commit: last is the commit time, the rows are counted, and the slot is freed
-abbrev pub committed_head : ℕ → Found → MapHead → MapHead
-committed_head t (At i) h =
-    record { low = h.low; last = t; next = h.next; used = h.used + length (rows_in h.slots (At i)); slots = closed_in h.slots i }
-committed_head t Nothing h = h
+abbrev pub committed_head : ℕ → Option ℕ → MapHead → MapHead
+committed_head t (Some i) h =
+    record { low = h.low; last = t; next = h.next; used = h.used + length (rows_in h.slots (Some i)); slots = closed_in h.slots i }
+committed_head t None h = h
 
 -- what an accepted call makes of the head
 abbrev pub head_after : Call → MapHead → MapHead

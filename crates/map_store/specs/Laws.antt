@@ -1,17 +1,14 @@
 -- How a call's parts make its contract: what was decided on the meaning, then done to the cells if it was accepted. Assumes nothing.
-use Rattle.std.specs.Prelude.{◌≡◌, refl, Bool, true, false, cond, ℕ, ◌<◌, eqb, length}
+use Rattle.std.specs.Prelude.{◌≡◌, refl, Bool, true, false, cond, ℕ, ◌<◌, eqb, length, None, Option, Some}
 use Rattle.std.proofs.Common.{sym, ap, ◌∙◌, eqb-true}
 use Rattle.rules.specs.Limits.{numbers_end}
-use Rattle.rules.specs.declared.Value.{Value}
-use Rattle.rules.specs.declared.Value.TheVariants.{Absent}
+use Rattle.rules.specs.Value.{Value}
 use Rattle.rules.specs.Calls.{Call, Begin}
 use Rattle.answer.specs.declared.Refusal.{Refusal}
 use Rattle.answer.specs.declared.Refusal.TheVariants.{BadShape}
 use Rattle.answer.specs.declared.Done.TheVariants as done
 use Rattle.answer.specs.Reply.{Reply, refused, accepted, of_done, told, after}
 use Rattle.answer.specs.Laws.{refused_some, after_refused}
-use Rattle.column.specs.declared.Found.{Found}
-use Rattle.column.specs.declared.Found.TheVariants.{At, Nothing}
 use Rattle.slot.specs.declared.Slots.{Slots}
 use Rattle.slot.specs.Slots.{slot_at, slot_of, has_number}
 use Rattle.slot.specs.Formed.{Formed, Rowed}
@@ -28,11 +25,11 @@ use Rattle.map_store.specs.CallContracts.{shaped_number, number, Decided, Answer
 use Rattle.map_store.specs.Tests.{say, begin_numbered}
 
 -- the slot that was found is the place of the transaction, and its rows are in order
-module _ (h : Slots) (n : ℕ) {f : Found} (e : f ≡ slot_of h n) where
-  pub place_none : f ≡ Nothing → place_of n (places_of h) ≡ free
+module _ (h : Slots) (n : ℕ) {f : Option ℕ} (e : f ≡ slot_of h n) where
+  pub place_none : f ≡ None → place_of n (places_of h) ≡ free
   place_none g = place_slot h n ∙ ap (place_in h) (sym e ∙ g)
 
-  module _ {i : ℕ} (g : f ≡ At i) where
+  module _ {i : ℕ} (g : f ≡ Some i) where
     pub place_found : place_of n (places_of h) ≡ taken_by (slot_at h i)
     place_found = place_slot h n ∙ ap (place_in h) (sym e ∙ g)
 
@@ -91,7 +88,7 @@ module _ {c : Call} {h : MapHead} {cs : Columns} where
 
     -- one that is accepted leaves the head that it is to leave
     pub carried_out : (o : Outcome) (head : MapHead) → (o.head ≡ head) × (o.answer ≡ done.Accepted)
-        → Decided c (room_of (length cs.keys)) (meaning h cs) (accepted Absent) → head ≡ head_after c h
+        → Decided c (room_of (length cs.keys)) (meaning h cs) (accepted None) → head ≡ head_after c h
         → Answered c h cs (of_done o.answer) o.head
     carried_out o head r d e = rw (r.0, r.1) (answered d {accepted = true} refl e)
 

@@ -1,9 +1,8 @@
 -- Sections 3 and 6: what the map store answers to each call, and what an accepted call makes of it, on its meaning: low, last, next, the eight places
 -- and the versions, the newest first. Bad shape (1) is tested on the lent cells, before there is a meaning. Assumes nothing.
-use Rattle.std.specs.Prelude.{Bool, false, cond, ◌||◌, List, [], ◌∷◌, ℕ, ◌+◌, eqb, leb, ltb, length}
+use Rattle.std.specs.Prelude.{Bool, false, cond, ◌||◌, List, [], ◌∷◌, ℕ, ◌+◌, eqb, leb, ltb, length, Some, None}
 use Rattle.rules.specs.Limits.{most_running, most_keys, numbers_end}
-use Rattle.rules.specs.declared.Value.{Value}
-use Rattle.rules.specs.declared.Value.TheVariants.{Absent, Present}
+use Rattle.rules.specs.Value.{Value}
 use Rattle.rules.specs.declared.Effect.{Effect}
 use Rattle.rules.specs.Effects.{or_zero, applied, is_add, mark_of}
 use Rattle.rules.specs.Calls.{Call, Begin, Update, Abort, Commit, time_tests, lookup_tests, checkpoint_tests, with_room}
@@ -40,7 +39,7 @@ current k s rows vs = makes k rows (value_at k s vs)
 
 -- what a transaction reads in a key
 abbrev pub read_at : ℕ → Place → List Version → Value
-read_at k free vs = Absent
+read_at k free vs = None
 read_at k (taken n s rows) vs = current k s rows vs
 
 abbrev pub read_in : ℕ → ℕ → MapStore → Value
@@ -53,10 +52,10 @@ rows_at (taken n s rows) = firsts rows
 
 -- begin returns the transaction number, the others nothing
 abbrev pub gives : Call → MapStore → Value
-gives (Begin t) m = Present m.next
-gives (Update n k e) m = Absent
-gives (Abort n) m = Absent
-gives (Commit n t) m = Absent
+gives (Begin t) m = Some m.next
+gives (Update n k e) m = None
+gives (Abort n) m = None
+gives (Commit n t) m = None
 
 -- the tests of a time, as in the journal store
 abbrev pub time_refusal : ℕ → MapStore → ℕ → ℕ

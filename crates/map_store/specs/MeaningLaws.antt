@@ -1,14 +1,13 @@
 -- What accepted calls make of the cells means what they make of the store, and the shape stays good. Assumes nothing.
-use Rattle.std.specs.Prelude.{◌≡◌, refl, Bool, true, false, cond, ◌||◌, List, [], ◌∷◌, ◌++◌, ℕ, suc, ◌+◌, ◌-◌, ◌≤◌, eqb, ltb, length, drop, set, replicate}
+use Rattle.std.specs.Prelude.{◌≡◌, refl, Bool, true, false, cond, ◌||◌, List, [], ◌∷◌, ◌++◌, ℕ, suc, ◌+◌, ◌-◌, ◌≤◌, eqb, ltb, length, drop, set, replicate, Some, None}
 use Rattle.std.proofs.Common.{ap, ap₂, ◌∙◌, add-zero, arith, length-set, length-append, length-drop}
 use Rattle.std.proofs.Math.Nat.{min-le_left, min-le_right}
 use Rattle.std.proofs.lemmas.List.{length-replicate}
 use Rattle.rules.specs.Limits.{most_versions, most_running, most_keys}
 use Rattle.rules.specs.declared.Effect.{Effect}
-use Rattle.rules.specs.declared.Value.{Value}
+use Rattle.rules.specs.Value.{Value}
 use Rattle.rules.specs.Passed.{passed}
 use Rattle.rules.specs.Calls.{Begin, Update, Abort, Commit}
-use Rattle.column.specs.declared.Found.TheVariants.{At, Nothing}
 use Rattle.slot.specs.declared.Slots.{Slots}
 use Rattle.slot.specs.Slots.{slot_at, slot_of, has_number}
 use Rattle.slot.specs.Formed.{Formed}
@@ -79,7 +78,7 @@ module _ (h : MapHead) (cs : Columns) (w : Shaped h (lengths cs)) where
 
   -- a slot that is found is one of the eight
   module _ (n : ℕ) where
-    below : (i : ℕ) → slot_of h.slots n ≡ At i → suc i ≤ most_running
+    below : (i : ℕ) → slot_of h.slots n ≡ Some i → suc i ≤ most_running
     below i g = (first_slot_lem (has_number n) h.slots g).below
 
     pub abort_meaning : map_refusal (Abort n) (meaning h cs) ≡ 0
@@ -128,11 +127,11 @@ module _ (h : MapHead) (cs : Columns) (w : Shaped h (lengths cs)) where
 
     module _ (t : ℕ) (e : map_answer (room_of (length cs.keys)) (Commit n t) (meaning h cs) ≡ 0) where
       -- an accepted commit has a lent row for each key
-      fits : (i : ℕ) → slot_of h.slots n ≡ At i → h.used + length (rows_in h.slots (At i)) ≤ room_of (length cs.keys)
+      fits : (i : ℕ) → slot_of h.slots n ≡ Some i → h.used + length (rows_in h.slots (Some i)) ≤ room_of (length cs.keys)
       fits i g =
           rw (length_versions h.used cs, place_found h.slots n refl g) at (commit_fits (room_of (length cs.keys)) n t (meaning h cs) e)
 
-      unknown : slot_of h.slots n ≡ Nothing → ⊥
+      unknown : slot_of h.slots n ≡ None → ⊥
       unknown g =
           let z = decided_number (commit_unknown {room = room_of (length cs.keys)} {m = meaning h cs} (place_none h.slots n refl g) {t = t}) in
           omega arith
@@ -147,7 +146,7 @@ module _ (h : MapHead) (cs : Columns) (w : Shaped h (lengths cs)) where
           rw (g, place_found h.slots n refl g)
           (ap₂ (λ (ps : List Place) (vers : List Version). record { low = h.low; last = t; next = h.next; places = ps; versions = vers })
           (closed_places h.slots n g)
-          (stamped_versions (newest_value (meaning h cs)) t h.used (rows_in h.slots (At i)) cs
+          (stamped_versions (newest_value (meaning h cs)) t h.used (rows_in h.slots (Some i)) cs
           (record { keys = omega arith; times = omega (arith, w.times); values = omega (arith, w.values); marks = omega (arith, w.marks) }))))
           (λ g. absurd (unknown g))
 
@@ -159,7 +158,7 @@ module _ (h : MapHead) (cs : Columns) (w : Shaped h (lengths cs)) where
           let r = min-le_right most_versions (length cs.keys) in
           let m = min-le_left most_versions (length cs.keys) in
           rw g
-          (shaped_long (committed_head t (At i) h) (written_long (newest_value (meaning h cs)) h.used t (rows_in h.slots (At i)) cs)
+          (shaped_long (committed_head t (Some i) h) (written_long (newest_value (meaning h cs)) h.used t (rows_in h.slots (Some i)) cs)
           (record {
             limit = omega arith;
             rows = omega arith;

@@ -4,9 +4,8 @@ ghost use Rattle.answer.specs.Reply.{of_done};
 ghost use Rattle.versions.specs.Versions.{columns};
 ghost use Rattle.map_store.specs.CallContracts.{Answered};
 
-use crate::{MapHead, Outcome};
-use answer::Refusal;
-use column::Found;
+use crate::MapHead;
+use answer::{Outcome, Refusal};
 
 // Ends a running transaction; its updates have no effect.
 pub fn abort(
@@ -16,7 +15,7 @@ pub fn abort(
     values: &[u32],
     marks: &[u8],
     n: u32,
-) -> Outcome
+) -> Outcome<MapHead, ()>
     ensures { Answered (Abort n) h (columns keys.now times.now values.now marks.now) (of_done result.answer) result.head }
 {
     if !crate::shaped(h, keys.len(), times.len(), values.len(), marks.len()) {
@@ -24,7 +23,7 @@ pub fn abort(
     }
     let slots = h.slots;
     match slots.find(n) {
-        Found::At(i) => crate::accepted(h, slots.closed(i)),
-        Found::Nothing => crate::refused(h, Refusal::UnknownTransaction),
+        Some(i) => crate::accepted(h, slots.closed(i)),
+        None => crate::refused(h, Refusal::UnknownTransaction),
     }
 }

@@ -8,29 +8,29 @@ ghost use Rattle.map_store.specs.Shape.{lengths, Shaped, meaning, room_of};
 ghost use Rattle.map_store.specs.Heads.{begun_head};
 ghost use Rattle.map_store.specs.CallContracts.{Decided, Answered};
 
-use crate::{MapHead, Started};
-use answer::{Begun, Refusal};
+use crate::MapHead;
+use answer::{Outcome, Refusal};
 use slot::Slots;
 
 // What a store of good shape answers.
-fn decide(h: MapHead, keys: &[u32], times: &[u64], values: &[u32], marks: &[u8], t: u64) -> Begun
+fn decide(h: MapHead, keys: &[u32], times: &[u64], values: &[u32], marks: &[u8], t: u64) -> Result<u32, Refusal>
     requires { Shaped h (lengths (columns keys.now times.now values.now marks.now)) }
     ensures { Decided (Begin t) (room_of (length keys.now)) (meaning h (columns keys.now times.now values.now marks.now)) (of_begun result) }
 {
     if t < h.low {
-        return Begun::Refused(Refusal::TooOld);
+        return Err(Refusal::TooOld);
     }
     if h.last < t {
-        return Begun::Refused(Refusal::Future);
+        return Err(Refusal::Future);
     }
     let slots = h.slots;
     if Slots::SLOTS <= slots.running() as usize {
-        return Begun::Refused(Refusal::TooMany);
+        return Err(Refusal::TooMany);
     }
     if MapHead::NO_NUMBER <= h.next {
-        return Begun::Refused(Refusal::NoNumbers);
+        return Err(Refusal::NoNumbers);
     }
-    Begun::Number(h.next)
+    Ok(h.next)
 }
 
 // The head with the new transaction, if the call was accepted.
@@ -59,16 +59,16 @@ pub fn begin(
     values: &[u32],
     marks: &[u8],
     t: u64,
-) -> Started
+) -> Outcome<MapHead, u32>
     ensures { Answered (Begin t) h (columns keys.now times.now values.now marks.now) (of_begun result.answer) result.head }
 {
     if !crate::shaped(h, keys.len(), times.len(), values.len(), marks.len()) {
-        return Started {
+        return Outcome {
             head: h,
-            answer: Begun::Refused(Refusal::BadShape),
+            answer: Err(Refusal::BadShape),
         };
     }
     let answer = decide(h, keys, times, values, marks, t);
-    let head = open(h, answer.accepted(), t);
-    Started { head, answer }
+    let head = open(h, answer.is_ok(), t);
+    Outcome { head, answer }
 }

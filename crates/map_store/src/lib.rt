@@ -10,8 +10,7 @@ ghost use Rattle.map_store.specs.Meaning.{current};
 ghost use Rattle.map_store.specs.Heads.{with_slots};
 ghost use Rattle.map_store.specs.Shape.{empty_head, is_shaped, Shaped};
 
-use answer::{Begun, Done, Refusal};
-use column::Found;
+use answer::{Outcome, Refusal};
 use rules::Value;
 use slot::{Slot, Slots};
 use versions::Version;
@@ -51,20 +50,6 @@ impl MapHead {
     }
 }
 
-// What begin returns: the head and its answer.
-#[derive(Clone, Copy)]
-pub struct Started {
-    pub head: MapHead,
-    pub answer: Begun,
-}
-
-// What update, abort, commit and checkpoint return: the head and the answer.
-#[derive(Clone, Copy)]
-pub struct Outcome {
-    pub head: MapHead,
-    pub answer: Done,
-}
-
 // Section 6, number 1, the same for every call: used versions within limit and lent room, four columns of one length, next not 0, no occupied
 // slot with more than 32 keys.
 pub fn shaped(h: MapHead, keys: usize, times: usize, values: usize, marks: usize) -> bool
@@ -95,18 +80,18 @@ pub fn shaped(h: MapHead, keys: usize, times: usize, values: usize, marks: usize
 }
 
 // A call that is refused changes nothing.
-pub fn refused(h: MapHead, why: Refusal) -> Outcome
-    ensures { (result.head ≡ h) × (result.answer ≡ Done.Refused why) }
+pub fn refused(h: MapHead, why: Refusal) -> Outcome<MapHead, ()>
+    ensures { (result.head ≡ h) × (result.answer ≡ Err why) }
 {
     Outcome {
         head: h,
-        answer: Done::Refused(why),
+        answer: Err(why),
     }
 }
 
 // A call that is accepted and changes the slots alone.
-fn accepted(h: MapHead, slots: Slots) -> Outcome
-    ensures { (result.head ≡ with_slots h slots) × (result.answer ≡ Done.Accepted) }
+fn accepted(h: MapHead, slots: Slots) -> Outcome<MapHead, ()>
+    ensures { (result.head ≡ with_slots h slots) × (result.answer ≡ Ok tt) }
 {
     Outcome {
         head: MapHead {
@@ -116,7 +101,7 @@ fn accepted(h: MapHead, slots: Slots) -> Outcome
             used: h.used,
             slots: slots,
         },
-        answer: Done::Accepted,
+        answer: Ok(()),
     }
 }
 
@@ -126,10 +111,10 @@ fn current_value(s: Slot, keys: &[u32], times: &[u64], values: &[u32], used: usi
     ensures { (marks : List ℕ) → result ≡ current k s.snapshot (slot_rows s) (versions_of used (columns keys.now times.now values.now marks)) }
 {
     match s.find(k) {
-        Found::At(i) => {
+        Some(i) => {
             let e = s.effect(i);
             versions::applied_at(keys, times, values, used, k, s.snapshot, e)
         }
-        Found::Nothing => versions::value_at(keys, times, values, used, k, s.snapshot),
+        None => versions::value_at(keys, times, values, used, k, s.snapshot),
     }
 }

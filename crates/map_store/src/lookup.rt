@@ -7,7 +7,8 @@ ghost use Rattle.map_store.specs.Shape.{lengths, Shaped, meaning};
 ghost use Rattle.map_store.specs.CallContracts.{lookup_reply};
 
 use crate::MapHead;
-use answer::{Got, Refusal};
+use answer::Refusal;
+use rules::Value;
 
 // What a store of good shape answers.
 fn decide(
@@ -18,20 +19,20 @@ fn decide(
     marks: &[u8],
     k: u32,
     t: u64,
-) -> Got
+) -> Result<Value, Refusal>
     requires { Shaped h (lengths (columns keys.now times.now values.now marks.now)) }
     ensures { of_got result ≡ told (lookup_refusal k t (meaning h (columns keys.now times.now values.now marks.now))) (value_at k t (versions_of h.used (columns keys.now times.now values.now marks.now))) }
 {
     if k == 0 {
-        return Got::Refused(Refusal::BadKey);
+        return Err(Refusal::BadKey);
     }
     if t < h.low {
-        return Got::Refused(Refusal::TooOld);
+        return Err(Refusal::TooOld);
     }
     if h.last < t {
-        return Got::Refused(Refusal::Future);
+        return Err(Refusal::Future);
     }
-    Got::Value(versions::value_at(keys, times, values, h.used, k, t))
+    Ok(versions::value_at(keys, times, values, h.used, k, t))
 }
 
 // The value of k at t, or absent.
@@ -43,11 +44,11 @@ pub fn lookup(
     marks: &[u8],
     k: u32,
     t: u64,
-) -> Got
+) -> Result<Value, Refusal>
     ensures { of_got result ≡ lookup_reply k t h (columns keys.now times.now values.now marks.now) }
 {
     if !crate::shaped(h, keys.len(), times.len(), values.len(), marks.len()) {
-        return Got::Refused(Refusal::BadShape);
+        return Err(Refusal::BadShape);
     }
     decide(h, keys, times, values, marks, k, t)
 }

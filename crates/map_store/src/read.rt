@@ -7,8 +7,8 @@ ghost use Rattle.map_store.specs.Shape.{lengths, Shaped, meaning};
 ghost use Rattle.map_store.specs.CallContracts.{read_reply};
 
 use crate::MapHead;
-use answer::{Got, Refusal};
-use column::Found;
+use answer::Refusal;
+use rules::Value;
 
 // What a store of good shape answers.
 fn decide(
@@ -19,20 +19,20 @@ fn decide(
     marks: &[u8],
     n: u32,
     k: u32,
-) -> Got
+) -> Result<Value, Refusal>
     requires { Shaped h (lengths (columns keys.now times.now values.now marks.now)) }
     ensures { of_got result ≡ told (read_refusal n k (meaning h (columns keys.now times.now values.now marks.now))) (read_in n k (meaning h (columns keys.now times.now values.now marks.now))) }
 {
     let slots = h.slots;
     match slots.find(n) {
-        Found::At(i) => {
+        Some(i) => {
             if k == 0 {
-                return Got::Refused(Refusal::BadKey);
+                return Err(Refusal::BadKey);
             }
             let s = slots.at(i);
-            Got::Value(crate::current_value(s, keys, times, values, h.used, k))
+            Ok(crate::current_value(s, keys, times, values, h.used, k))
         }
-        Found::Nothing => Got::Refused(Refusal::UnknownTransaction),
+        None => Err(Refusal::UnknownTransaction),
     }
 }
 
@@ -45,11 +45,11 @@ pub fn read(
     marks: &[u8],
     n: u32,
     k: u32,
-) -> Got
+) -> Result<Value, Refusal>
     ensures { of_got result ≡ read_reply n k h (columns keys.now times.now values.now marks.now) }
 {
     if !crate::shaped(h, keys.len(), times.len(), values.len(), marks.len()) {
-        return Got::Refused(Refusal::BadShape);
+        return Err(Refusal::BadShape);
     }
     decide(h, keys, times, values, marks, n, k)
 }

@@ -8,9 +8,8 @@ ghost use Rattle.slot.specs.Places.{has_key, slot_rows};
 ghost use Rattle.versions.specs.Versions.{columns};
 ghost use Rattle.map_store.specs.CallContracts.{Answered};
 
-use crate::{MapHead, Outcome};
-use answer::Refusal;
-use column::Found;
+use crate::MapHead;
+use answer::{Outcome, Refusal};
 use rules::Effect;
 use slot::Slot;
 
@@ -20,8 +19,8 @@ fn is_full(s: Slot, k: u32) -> bool
     ensures { result ≡ not (has_key k (slot_rows s) || ltb (length (slot_rows s)) most_keys) }
 {
     match s.find(k) {
-        Found::At(_) => false,
-        Found::Nothing => Slot::KEYS <= s.count,
+        Some(_) => false,
+        None => Slot::KEYS <= s.count,
     }
 }
 
@@ -35,7 +34,7 @@ pub fn update(
     n: u32,
     k: u32,
     e: Effect,
-) -> Outcome
+) -> Outcome<MapHead, ()>
     ensures { Answered (Update n k e) h (columns keys.now times.now values.now marks.now) (of_done result.answer) result.head }
 {
     if !crate::shaped(h, keys.len(), times.len(), values.len(), marks.len()) {
@@ -43,7 +42,7 @@ pub fn update(
     }
     let mut slots = h.slots;
     let found = slots.find(n);
-    let Found::At(i) = found else {
+    let Some(i) = found else {
         return crate::refused(h, Refusal::UnknownTransaction);
     };
     if k == 0 {

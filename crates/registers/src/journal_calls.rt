@@ -3,39 +3,12 @@ ghost use Rattle.std.specs.Prelude.{◌≡◌};
 ghost use Rattle.rules.specs.Calls.{Begin, Update, Abort, Commit};
 ghost use Rattle.journal_store.specs.Shape.{empty_head};
 ghost use Rattle.journal_store.specs.CallContracts.{Wrote, read_decided, lookup_decided, shaped_reply, ListedBy, Checkpointed, Recovered};
-ghost use Rattle.answer.specs.Reply.{of_begun, of_done};
-ghost use Rattle.answer.specs.Shown.{answer_of};
 ghost use Rattle.registers.specs.Answer.{Answers, JournalReturns};
 
 use crate::JournalResult;
-use answer::shown;
 use answer::shown::Answer;
-use journal_store::{Head, Outcome, Started};
+use journal_store::Head;
 use rules::Effect;
-
-// What begin returns.
-fn started(o: Started) -> JournalResult
-    ensures { (result.head ≡ o.head) × (result.answer ≡ answer_of (of_begun o.answer)) }
-{
-    let head = o.head;
-    let answer = o.answer;
-    JournalResult {
-        head,
-        answer: shown::begun(answer),
-    }
-}
-
-// What the other calls return that change the store.
-fn ended(o: Outcome) -> JournalResult
-    ensures { (result.head ≡ o.head) × (result.answer ≡ answer_of (of_done o.answer)) }
-{
-    let head = o.head;
-    let answer = o.answer;
-    JournalResult {
-        head,
-        answer: shown::done(answer),
-    }
-}
 
 // The head of an empty store.
 pub fn registers_journal_empty() -> Head
@@ -54,7 +27,7 @@ pub fn registers_journal_begin(
 ) -> JournalResult
     ensures { JournalReturns (λ a head. Wrote (Begin time) h keys.now values.now journal.old a head journal.new) result }
 {
-    started(journal_store::begin::begin(h, keys, values, journal, time))
+    journal_store::begin::begin(h, keys, values, journal, time).into()
 }
 
 // A running transaction gives a key a value. Refusals 1, 2, 3, 8, 12.
@@ -70,7 +43,7 @@ pub fn registers_journal_assign(
     ensures { JournalReturns (λ a head. Wrote (Update transaction key (Effect.Assign value)) h keys.now values.now journal.old a head journal.new) result }
 {
     let e = Effect::Assign(value);
-    ended(journal_store::update::update(h, keys, values, journal, transaction, key, e))
+    journal_store::update::update(h, keys, values, journal, transaction, key, e).into()
 }
 
 // A running transaction adds to a key. Refusals 1, 2, 3, 8, 12.
@@ -86,7 +59,7 @@ pub fn registers_journal_add(
     ensures { JournalReturns (λ a head. Wrote (Update transaction key (Effect.Add amount)) h keys.now values.now journal.old a head journal.new) result }
 {
     let e = Effect::Add(amount);
-    ended(journal_store::update::update(h, keys, values, journal, transaction, key, e))
+    journal_store::update::update(h, keys, values, journal, transaction, key, e).into()
 }
 
 // Ends a running transaction; its updates have no effect. Refusals 1, 2, 12.
@@ -99,7 +72,7 @@ pub fn registers_journal_abort(
 ) -> JournalResult
     ensures { JournalReturns (λ a head. Wrote (Abort transaction) h keys.now values.now journal.old a head journal.new) result }
 {
-    ended(journal_store::abort::abort(h, keys, values, journal, transaction))
+    journal_store::abort::abort(h, keys, values, journal, transaction).into()
 }
 
 // Commits a running transaction at a time later than last. Refusals 1, 2, 10, 11, 12.
@@ -113,7 +86,7 @@ pub fn registers_journal_commit(
 ) -> JournalResult
     ensures { JournalReturns (λ a head. Wrote (Commit transaction time) h keys.now values.now journal.old a head journal.new) result }
 {
-    ended(journal_store::commit::commit(h, keys, values, journal, transaction, time))
+    journal_store::commit::commit(h, keys, values, journal, transaction, time).into()
 }
 
 // The value of a key as a running transaction sees it, or absent. Refusals 1, 2, 3.
@@ -127,7 +100,7 @@ pub fn registers_journal_read(
 ) -> Answer
     ensures { Answers (λ a. a ≡ shaped_reply h keys.now values.now journal.now (read_decided transaction key)) result }
 {
-    shown::got(journal_store::read::read(h, keys, values, journal, transaction, key))
+    journal_store::read::read(h, keys, values, journal, transaction, key).into()
 }
 
 // The committed value of a key at a time, or absent. Refusals 1, 3, 4, 5.
@@ -141,7 +114,7 @@ pub fn registers_journal_lookup(
 ) -> Answer
     ensures { Answers (λ a. a ≡ shaped_reply h keys.now values.now journal.now (lookup_decided key time)) result }
 {
-    shown::got(journal_store::lookup::lookup(h, keys, values, journal, key, time))
+    journal_store::lookup::lookup(h, keys, values, journal, key, time).into()
 }
 
 // The list at a time, into two lent columns, keys and values; answers the count of rows. Refusals 1, 4, 5, 12.
@@ -156,7 +129,7 @@ pub fn registers_journal_list(
 ) -> Answer
     ensures { Answers (λ a. ListedBy h keys.now values.now journal.now time listed.old contents.old a listed.new contents.new) result }
 {
-    shown::listed(journal_list::list(h, keys, values, journal, time, listed, contents))
+    journal_list::list(h, keys, values, journal, time, listed, contents).into()
 }
 
 // The base becomes the list at a time, and the journal keeps what is still needed. Refusals 1, 4, 5, 9, 12.
@@ -169,7 +142,7 @@ pub fn registers_journal_checkpoint(
 ) -> JournalResult
     ensures { JournalReturns (λ a head. Checkpointed time h keys.old values.old journal.old a head keys.new values.new journal.new) result }
 {
-    ended(journal_checkpoint::checkpoint(h, keys, values, journal, time))
+    journal_checkpoint::checkpoint(h, keys, values, journal, time).into()
 }
 
 // Takes the bytes that survived a restart for the journal; 13 comes with the place of the first record that fails. Refusals 1, 13.
@@ -182,5 +155,5 @@ pub fn registers_journal_recover(
 ) -> JournalResult
     ensures { JournalReturns (λ a head. Recovered h keys.now values.now journal.old survived a head journal.new) result }
 {
-    ended(journal_recovery::recover(h, keys, values, journal, survived))
+    journal_recovery::recover(h, keys, values, journal, survived).into()
 }

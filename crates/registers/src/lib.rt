@@ -3,7 +3,12 @@
 // `about` gives a host what it can hold its own figures to.
 #![tactic(auto)]
 
-use answer::shown::Answer;
+ghost use Rattle.std.specs.Prelude.{◌≡◌};
+ghost use Rattle.answer.specs.Reply.{of_result};
+ghost use Rattle.answer.specs.Shown.{answer_of};
+
+use answer::Outcome;
+use answer::shown::{Answer, Given};
 use journal_store::Head;
 use map_store::MapHead;
 
@@ -11,18 +16,28 @@ pub mod about;
 pub mod journal_calls;
 pub mod map_calls;
 
-// What a call that changes the journal store returns: the head to use from then on, and the answer.
+// What a call that changes a store returns: the head to use from then on, and the answer.
 #[repr(C)]
 #[derive(Clone, Copy)]
-pub struct JournalResult {
-    pub head: Head,
+pub struct Returned<H> {
+    pub head: H,
     pub answer: Answer,
 }
 
-// What a call that changes the map store returns: the head to use from then on, and the answer.
-#[repr(C)]
-#[derive(Clone, Copy)]
-pub struct MapResult {
-    pub head: MapHead,
-    pub answer: Answer,
+// Of the journal store.
+pub type JournalResult = Returned<Head>;
+
+// Of the map store.
+pub type MapResult = Returned<MapHead>;
+
+impl<H, T: Given> From<Outcome<H, T>> for Returned<H> {
+    ghost from_gives = { λ o r. (r.head ≡ o.head) × (r.answer ≡ answer_of (of_result T.given o.answer)) };
+
+    fn from(outcome: Outcome<H, T>) -> Self {
+        let Outcome { head, answer } = outcome;
+        Returned {
+            head,
+            answer: answer.into(),
+        }
+    }
 }

@@ -4,39 +4,12 @@ ghost use Rattle.rules.specs.Calls.{Begin, Update, Abort};
 ghost use Rattle.versions.specs.Versions.{columns};
 ghost use Rattle.map_store.specs.Shape.{empty_head};
 ghost use Rattle.map_store.specs.CallContracts.{Answered, Committed, read_reply, lookup_reply, ListedAt, Checkpointed};
-ghost use Rattle.answer.specs.Reply.{of_begun, of_done};
-ghost use Rattle.answer.specs.Shown.{answer_of};
 ghost use Rattle.registers.specs.Answer.{Answers, MapReturns};
 
 use crate::MapResult;
-use answer::shown;
 use answer::shown::Answer;
-use map_store::{MapHead, Outcome, Started};
+use map_store::MapHead;
 use rules::Effect;
-
-// What begin returns.
-fn started(o: Started) -> MapResult
-    ensures { (result.head ≡ o.head) × (result.answer ≡ answer_of (of_begun o.answer)) }
-{
-    let head = o.head;
-    let answer = o.answer;
-    MapResult {
-        head,
-        answer: shown::begun(answer),
-    }
-}
-
-// What the other calls return that change the store.
-fn ended(o: Outcome) -> MapResult
-    ensures { (result.head ≡ o.head) × (result.answer ≡ answer_of (of_done o.answer)) }
-{
-    let head = o.head;
-    let answer = o.answer;
-    MapResult {
-        head,
-        answer: shown::done(answer),
-    }
-}
 
 // The head of an empty store.
 pub fn registers_map_empty() -> MapHead
@@ -56,7 +29,7 @@ pub fn registers_map_begin(
 ) -> MapResult
     ensures { MapReturns (λ a head. Answered (Begin time) h (columns keys.now times.now values.now marks.now) a head) result }
 {
-    started(map_store::begin::begin(h, keys, times, values, marks, time))
+    map_store::begin::begin(h, keys, times, values, marks, time).into()
 }
 
 // A running transaction gives a key a value. Refusals 1, 2, 3, 8.
@@ -73,7 +46,7 @@ pub fn registers_map_assign(
     ensures { MapReturns (λ a head. Answered (Update transaction key (Effect.Assign value)) h (columns keys.now times.now values.now marks.now) a head) result }
 {
     let e = Effect::Assign(value);
-    ended(map_store::update::update(h, keys, times, values, marks, transaction, key, e))
+    map_store::update::update(h, keys, times, values, marks, transaction, key, e).into()
 }
 
 // A running transaction adds to a key. Refusals 1, 2, 3, 8.
@@ -90,7 +63,7 @@ pub fn registers_map_add(
     ensures { MapReturns (λ a head. Answered (Update transaction key (Effect.Add amount)) h (columns keys.now times.now values.now marks.now) a head) result }
 {
     let e = Effect::Add(amount);
-    ended(map_store::update::update(h, keys, times, values, marks, transaction, key, e))
+    map_store::update::update(h, keys, times, values, marks, transaction, key, e).into()
 }
 
 // Ends a running transaction; its updates have no effect. Refusals 1, 2.
@@ -104,7 +77,7 @@ pub fn registers_map_abort(
 ) -> MapResult
     ensures { MapReturns (λ a head. Answered (Abort transaction) h (columns keys.now times.now values.now marks.now) a head) result }
 {
-    ended(map_store::abort::abort(h, keys, times, values, marks, transaction))
+    map_store::abort::abort(h, keys, times, values, marks, transaction).into()
 }
 
 // Commits a running transaction at a time later than last. Refusals 1, 2, 10, 11, 12.
@@ -119,7 +92,7 @@ pub fn registers_map_commit(
 ) -> MapResult
     ensures { MapReturns (λ a head. Committed transaction time h (columns keys.old times.old values.old marks.old) a head (columns keys.new times.new values.new marks.new)) result }
 {
-    ended(map_commit::commit(h, keys, times, values, marks, transaction, time))
+    map_commit::commit(h, keys, times, values, marks, transaction, time).into()
 }
 
 // The value of a key as a running transaction sees it, or absent. Refusals 1, 2, 3.
@@ -134,7 +107,7 @@ pub fn registers_map_read(
 ) -> Answer
     ensures { Answers (λ a. a ≡ read_reply transaction key h (columns keys.now times.now values.now marks.now)) result }
 {
-    shown::got(map_store::read::read(h, keys, times, values, marks, transaction, key))
+    map_store::read::read(h, keys, times, values, marks, transaction, key).into()
 }
 
 // The committed value of a key at a time, or absent. Refusals 1, 3, 4, 5.
@@ -149,7 +122,7 @@ pub fn registers_map_lookup(
 ) -> Answer
     ensures { Answers (λ a. a ≡ lookup_reply key time h (columns keys.now times.now values.now marks.now)) result }
 {
-    shown::got(map_store::lookup::lookup(h, keys, times, values, marks, key, time))
+    map_store::lookup::lookup(h, keys, times, values, marks, key, time).into()
 }
 
 // The list at a time, into two lent columns, keys and values; answers the count of rows. Refusals 1, 4, 5, 12.
@@ -165,7 +138,7 @@ pub fn registers_map_list(
 ) -> Answer
     ensures { Answers (λ a. ListedAt time h (columns keys.now times.now values.now marks.now) listed.old contents.old a listed.new contents.new) result }
 {
-    shown::listed(map_list::list(h, keys, times, values, marks, time, listed, contents))
+    map_list::list(h, keys, times, values, marks, time, listed, contents).into()
 }
 
 // Low becomes a time; kept are the versions after it and, for each key, its newest at or before it. Refusals 1, 4, 5, 9.
@@ -179,5 +152,5 @@ pub fn registers_map_checkpoint(
 ) -> MapResult
     ensures { MapReturns (λ a head. Checkpointed time h (columns keys.old times.old values.old marks.old) a head (columns keys.new times.new values.new marks.new)) result }
 {
-    ended(map_checkpoint::checkpoint(h, keys, times, values, marks, time))
+    map_checkpoint::checkpoint(h, keys, times, values, marks, time).into()
 }

@@ -1,12 +1,10 @@
 -- What list and recover of the journal store give here: a list at last with room for every row is never refused, and the reply of recover decides
 -- the text. Assumes nothing.
-use Rattle.std.specs.Prelude.{◌≡◌, refl, Bool, true, false, cond, not, ◌&&◌, List, ◌++◌, ℕ, ◌≤◌, eqb, leb, length, take, drop}
+use Rattle.std.specs.Prelude.{◌≡◌, refl, Bool, true, false, cond, not, ◌&&◌, List, ◌++◌, ℕ, ◌≤◌, eqb, leb, length, take, drop, Option, Some, None}
 use Rattle.std.proofs.Common.{sym, ap, ◌∙◌, zero-add, arith, length-append, le-ltb, leb-true, leb-false, eqb-true}
 use Rattle.std.proofs.Math.Nat.{le-min}
 use Rattle.std.proofs.lemmas.Bool.{eqb-false, not-true}
 use Rattle.rules.specs.declared.Record.{Record}
-use Rattle.rules.specs.declared.Walked.{Walked}
-use Rattle.rules.specs.declared.Walked.TheVariants.{Whole, BadAt}
 use Rattle.rules.specs.Bools.{split, not_both, and_left, and_right}
 use Rattle.rules.specs.Limits.{most_rows, numbers_end}
 use Rattle.rules.specs.Effects.{or_zero}
@@ -129,14 +127,14 @@ next_some floor rs z =
 abbrev reply_text : Reply → ℕ → List Row → List Record → List ℕ
 reply_text a low base rs = cond (eqb a.number 0) (list_text low base (survivors rs)) (refused_text a.number (or_zero a.value))
 
-walked_text_lem : (w : Walked) (low : ℕ) (base : List Row) (rs : List Record) → reply_text (walked_reply w) low base rs ≡ walked_text w low base rs
-walked_text_lem Whole low base rs = refl
-walked_text_lem (BadAt i) low base rs = refl
+walked_text_lem : (w : Option ℕ) (low : ℕ) (base : List Row) (rs : List Record) → reply_text (walked_reply w) low base rs ≡ walked_text w low base rs
+walked_text_lem None low base rs = refl
+walked_text_lem (Some i) low base rs = refl
 
-walked_cells_lem : (w : Walked) (j : List ℕ) (survived : ℕ)
+walked_cells_lem : (w : Option ℕ) (j : List ℕ) (survived : ℕ)
     → after (walked_reply w).number (compacted (survivors (surviving survived j)) survived j) j ≡ walked_cells w j survived
-walked_cells_lem Whole j survived = refl
-walked_cells_lem (BadAt i) j survived = refl
+walked_cells_lem None j survived = refl
+walked_cells_lem (Some i) j survived = refl
 
 module _ (h : Head) (keys values j : List ℕ) (survived : ℕ) where
   abbrev text_of : Reply → List ℕ

@@ -1,11 +1,10 @@
 -- The laws of texts: two texts written one behind the other are one, how long the lines are at most, and a list has no more rows than its base has
 -- rows and its journal records. Assumes nothing.
-use Rattle.std.specs.Prelude.{◌≡◌, List, [], ◌∷◌, ◌++◌, ℕ, suc, ◌+◌, ◌^◌, ◌≤◌, ◌<◌, eqb, ltb, length, take, drop}
+use Rattle.std.specs.Prelude.{◌≡◌, List, [], ◌∷◌, ◌++◌, ℕ, suc, ◌+◌, ◌^◌, ◌≤◌, ◌<◌, eqb, ltb, length, take, drop, Some, None}
 use Rattle.std.proofs.Common.{sym, ap, ◌∙◌, append_assoc, arith, length-append, length-drop, length-take, drop-drop, drop_at, take_at, length-take-le}
 use Rattle.std.proofs.Math.Nat.{le-max_left}
 use Rattle.rules.specs.declared.Record.{Record}
-use Rattle.rules.specs.declared.Value.{Value}
-use Rattle.rules.specs.declared.Value.TheVariants.{Absent, Present}
+use Rattle.rules.specs.Value.{Value}
 use Rattle.rules.specs.Bools.{split}
 use Rattle.rules.specs.Kinds.{is_update, is_begin}
 use Rattle.rules.specs.Times.{above}
@@ -106,8 +105,8 @@ put_length new (row ∷ rows) =
     (λ a. split (eqb new.key row.key) (λ b. rw (a, b) (omega arith)) (λ b. rw (a, b) (omega (arith, put_length new rows))))
 
 enter_length : (k : ℕ) (v : Value) (rows : List Row) → length (enter k v rows) ≤ length rows + 1
-enter_length k Absent rows = omega arith
-enter_length k (Present v) rows =
+enter_length k None rows = omega arith
+enter_length k (Some v) rows =
     split (eqb k 0) (λ e. rw e (omega arith)) (λ e. rw e (put_length (record { key = k; value = v }) rows))
 
 listed_length : (f : ℕ → Value) (ks : List ℕ) → length (listed f ks) ≤ length ks

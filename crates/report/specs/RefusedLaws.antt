@@ -1,8 +1,6 @@
 -- What tells a refusal. Assumes nothing.
-use Rattle.std.specs.Prelude.{◌≡◌, refl, List, ◌++◌, ℕ, eqb, length, drop, get_or}
+use Rattle.std.specs.Prelude.{◌≡◌, refl, List, ◌++◌, ℕ, eqb, length, drop, get_or, Option, Some, None}
 use Rattle.rules.specs.declared.Record.{Record}
-use Rattle.rules.specs.declared.Walked.{Walked}
-use Rattle.rules.specs.declared.Walked.TheVariants.{Whole, BadAt}
 use Rattle.rules.specs.Bools.{split}
 use Rattle.rules.specs.Values.{Row}
 use Rattle.rules.specs.Recovery.{walk}
@@ -12,10 +10,10 @@ use Rattle.report.specs.Text.{base_of, walked_text, report_text}
 use Rattle.report.specs.Written.{Reported}
 use Rattle.report.specs.Refused.{is_bad, is_refused}
 
-walked_letter : (w : Walked) (low : ℕ) (base : List Row) (rs : List Record) (rest : List ℕ)
+walked_letter : (w : Option ℕ) (low : ℕ) (base : List Row) (rs : List Record) (rest : List ℕ)
     → eqb (get_or (walked_text w low base rs ++ rest) 0 0) 114 ≡ is_bad w
-walked_letter Whole low base rs rest = refl
-walked_letter (BadAt place) low base rs rest = refl
+walked_letter None low base rs rest = refl
+walked_letter (Some place) low base rs rest = refl
 
 module _ (h : Head) (keys values j : List ℕ) (survived : ℕ) where
   first_letter : (rest : List ℕ) → eqb (get_or (report_text h keys values j survived ++ rest) 0 0) 114 ≡ is_refused h keys values j survived

@@ -1,8 +1,6 @@
 -- Section 7: the text of the listing program, line by line, and what it makes of a head, a base and the bytes of a journal. Assumes nothing.
-use Rattle.std.specs.Prelude.{cond, List, [], ◌∷◌, ◌++◌, ℕ, ◌+◌, ◌*◌, length}
+use Rattle.std.specs.Prelude.{cond, List, [], ◌∷◌, ◌++◌, ℕ, ◌+◌, ◌*◌, length, Option, Some, None}
 use Rattle.rules.specs.declared.Record.{Record}
-use Rattle.rules.specs.declared.Walked.{Walked}
-use Rattle.rules.specs.declared.Walked.TheVariants.{Whole, BadAt}
 use Rattle.rules.specs.Limits.{most_records, most_rows}
 use Rattle.rules.specs.Times.{last}
 use Rattle.rules.specs.Values.{Row}
@@ -75,9 +73,9 @@ abbrev pub base_of : Head → List ℕ → List ℕ → List Row
 base_of h keys values = first_rows h.base.rows keys values
 
 -- after the walk: the list of what recovery keeps, or refusal 13 with its place
-abbrev pub walked_text : Walked → ℕ → List Row → List Record → List ℕ
-walked_text Whole low base rs = list_text low base (survivors rs)
-walked_text (BadAt place) low base rs = refused_text 13 place
+abbrev pub walked_text : Option ℕ → ℕ → List Row → List Record → List ℕ
+walked_text None low base rs = list_text low base (survivors rs)
+walked_text (Some place) low base rs = refused_text 13 place
 
 -- the whole output, from a head, its base and the bytes of a journal of which so many survived; what cannot be recovered by its shape is refusal 1
 abbrev pub report_text : Head → List ℕ → List ℕ → List ℕ → ℕ → List ℕ
@@ -87,9 +85,9 @@ report_text h keys values j survived =
     (refused_text 1 0)
 
 -- the journal afterwards: as section 5 leaves it where it was accepted, and as it was where it was refused
-abbrev pub walked_cells : Walked → List ℕ → ℕ → List ℕ
-walked_cells Whole j survived = compacted (survivors (surviving survived j)) survived j
-walked_cells (BadAt place) j survived = j
+abbrev pub walked_cells : Option ℕ → List ℕ → ℕ → List ℕ
+walked_cells None j survived = compacted (survivors (surviving survived j)) survived j
+walked_cells (Some place) j survived = j
 
 abbrev pub report_cells : Head → List ℕ → List ℕ → List ℕ → ℕ → List ℕ
 report_cells h keys values j survived =

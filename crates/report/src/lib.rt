@@ -10,7 +10,7 @@ ghost use Rattle.journal_store.specs.Shape.{Shaped};
 ghost use Rattle.report.specs.Text.{field as field_text, line as line_text, pair_line, row_lines, list_text, refused_text, base_of, row_bytes, text_bytes};
 ghost use Rattle.report.specs.Written.{Written, Reported};
 
-use answer::{Done, Listed, Refusal};
+use answer::Refusal;
 use journal::{Base, Journal};
 use journal_store::Head;
 
@@ -96,7 +96,7 @@ fn refused(out: &mut [u8], refusal: Refusal) -> usize
     ensures { Written out.old 0 (refused_text (number_of refusal) (place_number refusal)) result out.new }
 {
     let number = refusal.number() as u64;
-    let place = refusal.place() as u64;
+    let place = refusal.place().unwrap_or(0) as u64;
     pair(out, 0, b"refused=", number, b" record=", place)
 }
 
@@ -111,8 +111,8 @@ fn listing(out: &mut [u8], h: Head, keys: &[u32], values: &[u32], journal: &[u8]
     let last = journal::times::last(journal, used, h.low);
     let answer = journal_list::list(h, keys, values, journal, last, &mut listed, &mut contents);
     match answer {
-        Listed::Refused(refusal) => refused(out, refusal),
-        Listed::Rows(count) => {
+        Err(refusal) => refused(out, refusal),
+        Ok(count) => {
             let time = line(out, 0, b"time=", last);
             let head = line(out, time, b"keys=", count as u64);
             rows(out, head, &listed, &contents, count)
@@ -135,7 +135,7 @@ pub fn report(
     let outcome = journal_recovery::recover(h, keys, values, journal, survived);
     let answer = outcome.answer;
     match answer {
-        Done::Refused(refusal) => refused(out, refusal),
-        Done::Accepted => listing(out, outcome.head, keys, values, journal),
+        Err(refusal) => refused(out, refusal),
+        Ok(()) => listing(out, outcome.head, keys, values, journal),
     }
 }

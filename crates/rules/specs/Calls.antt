@@ -1,9 +1,8 @@
 -- Sections 3 and 6: what the journal store answers to each call, and what an accepted call makes of it, on its meaning: low, floor, the rows of the
 -- base and the records of the journal, the newest first. Bad shape (1) is tested on the lent cells, before there is a meaning. Assumes nothing.
-use Rattle.std.specs.Prelude.{ℕ, ◌+◌, Bool, cond, not, List, [], ◌∷◌, length, ◌==◌, nat_le, nat_lt}
+use Rattle.std.specs.Prelude.{ℕ, ◌+◌, Bool, cond, not, List, [], ◌∷◌, length, ◌==◌, nat_le, nat_lt, Some, None}
 use Rattle.rules.specs.declared.Record.{Record}
-use Rattle.rules.specs.declared.Value.{Value}
-use Rattle.rules.specs.declared.Value.TheVariants.{Absent, Present}
+use Rattle.rules.specs.Value.{Value}
 use Rattle.rules.specs.declared.Effect.{Effect}
 use Rattle.rules.specs.declared.Effect.TheVariants.{Assign, Add}
 use Rattle.rules.specs.Limits.{most_running, numbers_end}
@@ -88,10 +87,10 @@ record_of (Commit n t) s = committed n t
 
 -- begin returns the transaction number, the others nothing
 abbrev pub gives : Call → Store → Value
-gives (Begin t) s = Present (next_of s)
-gives (Update n k e) s = Absent
-gives (Abort n) s = Absent
-gives (Commit n t) s = Absent
+gives (Begin t) s = Some (next_of s)
+gives (Update n k e) s = None
+gives (Abort n) s = None
+gives (Commit n t) s = None
 
 -- What both stores test alike, by low and last: a time below low is too old (4), one above last lies in the future (5)
 abbrev pub time_tests : ℕ → ℕ → ℕ → ℕ → ℕ

@@ -1,9 +1,8 @@
 -- Laws of effects: two as one do what both do, one after the other, and cells hold the effect that was put there. Assumes nothing.
-use Rattle.std.specs.Prelude.{◌≡◌, ℕ, ◌+◌, ◌%◌, ◌^◌, ◌&&◌, refl}
+use Rattle.std.specs.Prelude.{◌≡◌, ℕ, ◌+◌, ◌%◌, ◌^◌, ◌&&◌, refl, Some}
 use Rattle.std.proofs.Common.{sym, ap, add_assoc}
 use Rattle.std.proofs.Math.Nat.{mod-add-mod, add-mod-mod}
-use Rattle.rules.specs.declared.Value.{Value}
-use Rattle.rules.specs.declared.Value.TheVariants.{Present}
+use Rattle.rules.specs.Value.{Value}
 use Rattle.rules.specs.declared.Effect.{Effect}
 use Rattle.rules.specs.declared.Effect.TheVariants.{Assign, Add}
 use Rattle.rules.specs.Effects.{or_zero, applied, joined, is_add, mark_of, amount_of, effect_by}
@@ -16,14 +15,14 @@ pub applied_joined : (a b : Effect) (v : Value) → applied (joined a b) v ≡ a
 applied_joined (Assign x) (Assign y) v = refl
 applied_joined (Add x) (Assign y) v = refl
 applied_joined (Assign x) (Add y) v = refl
-applied_joined (Add x) (Add y) v = ap Present (sum (or_zero v) x y)
+applied_joined (Add x) (Add y) v = ap Some (sum (or_zero v) x y)
 
 pub cells_hold : (e : Effect) → effect_by (mark_of e) (amount_of e) ≡ e
 cells_hold (Assign v) = refl
 cells_hold (Add d) = refl
 
 -- an effect always leaves a value
-pub applied_shown : (e : Effect) (v : Value) → Present (or_zero (applied e v)) ≡ applied e v
+pub applied_shown : (e : Effect) (v : Value) → Some (or_zero (applied e v)) ≡ applied e v
 applied_shown (Assign x) v = refl
 applied_shown (Add x) v = refl
 

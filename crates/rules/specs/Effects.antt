@@ -1,26 +1,25 @@
 -- Rule 3.1: what an effect makes of a value, and what the records of one transaction make of it. Assumes nothing.
-use Rattle.std.specs.Prelude.{ℕ, ◌+◌, ◌%◌, ◌^◌, Bool, true, false, cond, ◌&&◌, List, [], ◌∷◌, ◌==◌}
+use Rattle.std.specs.Prelude.{ℕ, ◌+◌, ◌%◌, ◌^◌, Bool, true, false, cond, ◌&&◌, List, [], ◌∷◌, ◌==◌, Some, None}
 use Rattle.rules.specs.declared.Record.{Record}
-use Rattle.rules.specs.declared.Value.{Value}
-use Rattle.rules.specs.declared.Value.TheVariants.{Absent, Present}
+use Rattle.rules.specs.Value.{Value}
 use Rattle.rules.specs.declared.Effect.{Effect}
 use Rattle.rules.specs.declared.Effect.TheVariants.{Assign, Add}
 use Rattle.rules.specs.Kinds.{is_assign, is_update}
 
 -- absent counting as 0
 abbrev pub or_zero : Value → ℕ
-or_zero Absent = 0
-or_zero (Present v) = v
+or_zero None = 0
+or_zero (Some v) = v
 
 -- a value, or another where it is absent
 abbrev pub or_else : Value → Value → Value
-or_else Absent w = w
-or_else (Present v) w = Present v
+or_else None w = w
+or_else (Some v) w = Some v
 
 -- assign v gives v; add d gives the old value plus d modulo 4,294,967,296
 abbrev pub applied : Effect → Value → Value
-applied (Assign v) old = Present v
-applied (Add d) old = Present ((or_zero old + d) % 2 ^ 32)
+applied (Assign v) old = Some v
+applied (Add d) old = Some ((or_zero old + d) % 2 ^ 32)
 
 -- two effects, the newer after the older, as one: an assign puts the older aside, an add goes onto what the older assigns or adds
 abbrev pub joined : Effect → Effect → Effect

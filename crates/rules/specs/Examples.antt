@@ -1,7 +1,6 @@
 -- Small examples of the rules, computed. Assumes nothing.
-use Rattle.std.specs.Prelude.{◌≡◌, ℕ, true, false, List, [], ◌∷◌, refl}
+use Rattle.std.specs.Prelude.{◌≡◌, ℕ, true, false, List, [], ◌∷◌, refl, Some, None}
 use Rattle.rules.specs.declared.Record.{Record}
-use Rattle.rules.specs.declared.Value.TheVariants.{Absent, Present}
 use Rattle.rules.specs.declared.Effect.TheVariants.{Assign, Add}
 use Rattle.rules.specs.Kinds.{begun, assigned, added, committed, aborted}
 use Rattle.rules.specs.Effects.{applied, joined}
@@ -12,11 +11,11 @@ use Rattle.rules.specs.Lists.{list_at}
 use Rattle.rules.specs.Conflicts.{conflict}
 
 -- rule 3.1: adding 0 to an absent key makes it present with 0
-add_nothing : applied (Add 0) Absent ≡ Present 0
+add_nothing : applied (Add 0) None ≡ Some 0
 add_nothing = refl
 
 -- rule 3.1: the sum is taken modulo 4,294,967,296
-add_wraps : applied (Add 3) (Present 4294967295) ≡ Present 2
+add_wraps : applied (Add 3) (Some 4294967295) ≡ Some 2
 add_wraps = refl
 
 -- section 7's journal, the newest first
@@ -67,31 +66,31 @@ next_capped : next 1 (begun 4294967295 0 ∷ []) ≡ 4294967295
 next_capped = refl
 
 -- rule 3.4: a commit at t is visible at t, an update without its commit never
-five_before : value_at [] seven 2 5 ≡ Present 10
+five_before : value_at [] seven 2 5 ≡ Some 10
 five_before = refl
 
-nine_absent : value_at [] seven 2 9 ≡ Absent
+nine_absent : value_at [] seven 2 9 ≡ None
 nine_absent = refl
 
-nine_later : value_at [] seven 99 9 ≡ Present 7
+nine_later : value_at [] seven 99 9 ≡ Some 7
 nine_later = refl
 
 -- the first of several base rows for a key counts
 abbrev twice : List Row
 twice = record { key = 9; value = 1 } ∷ record { key = 9; value = 2 } ∷ []
 
-first_counts : value_at twice [] 0 9 ≡ Present 1
+first_counts : value_at twice [] 0 9 ≡ Some 1
 first_counts = refl
 
 -- an update behind its commit has no effect
-behind : value_at [] (assigned 1 5 6 ∷ committed 1 1 ∷ begun 1 0 ∷ []) 1 5 ≡ Absent
+behind : value_at [] (assigned 1 5 6 ∷ committed 1 1 ∷ begun 1 0 ∷ []) 1 5 ≡ None
 behind = refl
 
 seven_listed : list_at [] seven 3 ≡ record { key = 5; value = 12 } ∷ record { key = 9; value = 7 } ∷ []
 seven_listed = refl
 
 -- rule 3.5
-three_reads : read_in [] seven 3 (snapshot 3 seven) 9 ≡ Present 99
+three_reads : read_in [] seven 3 (snapshot 3 seven) 9 ≡ Some 99
 three_reads = refl
 
 -- rule 3.6: two transactions from the same snapshot, of which the first commits; what each did to key 5

@@ -1,6 +1,7 @@
 -- What a reader must believe.
 pub mod Limits
 pub mod Kinds
+pub mod Value
 pub mod Effects
 pub mod Transactions
 pub mod Times

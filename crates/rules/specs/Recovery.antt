@@ -1,9 +1,7 @@
 -- Section 5 on the records of a journal, the newest first: whether an accepted call would write a record at its place, the walk over all of them,
 -- and what recovery keeps. Assumes nothing.
-use Rattle.std.specs.Prelude.{ℕ, ◌-◌, Bool, true, cond, not, ◌&&◌, ◌||◌, List, [], ◌∷◌, length, ◌==◌, nat_le, nat_lt}
+use Rattle.std.specs.Prelude.{ℕ, ◌-◌, Bool, true, cond, not, ◌&&◌, ◌||◌, List, [], ◌∷◌, length, ◌==◌, nat_le, nat_lt, Option, Some, None}
 use Rattle.rules.specs.declared.Record.{Record}
-use Rattle.rules.specs.declared.Walked.{Walked}
-use Rattle.rules.specs.declared.Walked.TheVariants.{Whole, BadAt}
 use Rattle.rules.specs.Limits.{most_running, numbers_end}
 use Rattle.rules.specs.Kinds.{is_begin, is_update, is_commit}
 use Rattle.rules.specs.Transactions.{any, of, runs, snapshot, running, may_write}
@@ -46,14 +44,14 @@ accepts low [] = true
 accepts low (r ∷ older) = judge low older r && accepts low older
 
 -- what an earlier place found, or else what this one finds
-abbrev pub first_bad : Walked → Walked → Walked
-first_bad Whole w = w
-first_bad (BadAt i) w = BadAt i
+abbrev pub first_bad : Option ℕ → Option ℕ → Option ℕ
+first_bad None w = w
+first_bad (Some i) w = Some i
 
 -- the place of the first record that fails, counted from 0
-abbrev pub walk : ℕ → List Record → Walked
-walk low [] = Whole
-walk low (r ∷ older) = first_bad (walk low older) (cond (judge low older r) Whole (BadAt (length older)))
+abbrev pub walk : ℕ → List Record → Option ℕ
+walk low [] = None
+walk low (r ∷ older) = first_bad (walk low older) (cond (judge low older r) None (Some (length older)))
 
 -- transaction n has a commit
 abbrev pub done : List Record → ℕ → Bool

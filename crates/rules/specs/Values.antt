@@ -1,8 +1,7 @@
 -- Rules 3.4 and 3.5 on the records of a journal, the newest first: the value of a key at a time, and a read. Assumes nothing.
-use Rattle.std.specs.Prelude.{ℕ, cond, ◌&&◌, List, [], ◌∷◌, ◌==◌, nat_le}
+use Rattle.std.specs.Prelude.{ℕ, cond, ◌&&◌, List, [], ◌∷◌, ◌==◌, nat_le, Some, None}
 use Rattle.rules.specs.declared.Record.{Record}
-use Rattle.rules.specs.declared.Value.{Value}
-use Rattle.rules.specs.declared.Value.TheVariants.{Absent, Present}
+use Rattle.rules.specs.Value.{Value}
 use Rattle.rules.specs.Kinds.{is_commit}
 use Rattle.rules.specs.Effects.{effects}
 use Rattle.rules.specs.Transactions.{of}
@@ -14,8 +13,8 @@ pub record Row : Type 0 where
 
 -- k's row, or absent: the first of several rows for a key counts
 abbrev pub row_value : List Row → ℕ → Value
-row_value [] k = Absent
-row_value (row ∷ rows) k = cond (row.key == k) (Present row.value) (row_value rows k)
+row_value [] k = None
+row_value (row ∷ rows) k = cond (row.key == k) (Some row.value) (row_value rows k)
 
 -- a commit record with time at most t applies its transaction's effects on k recorded before it
 abbrev pub settle : ℕ → ℕ → Record → List Record → Value → Value

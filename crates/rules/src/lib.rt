@@ -4,26 +4,10 @@
 
 ghost use Rattle.std.specs.Prelude.{◌≡◌, ◌&&◌, nat_le};
 ghost use Rattle.rules.specs.Kinds.{is_commit, is_update};
-ghost use Rattle.rules.specs.Effects.{or_zero, applied, joined, is_add, mark_of, amount_of, effect_by, effect_of};
+ghost use Rattle.rules.specs.Effects.{applied, joined, is_add, mark_of, amount_of, effect_by, effect_of};
 
-// What a register holds. 0 is an ordinary value and differs from absent.
-#[derive(Clone, Copy)]
-pub enum Value {
-    Absent,
-    Present(u32),
-}
-
-impl Value {
-    // The number that an add starts from: absent counts as 0.
-    pub fn or_zero(self) -> u32
-        ensures { result ≡ or_zero self }
-    {
-        match self {
-            Value::Absent => 0,
-            Value::Present(v) => v,
-        }
-    }
-}
+// What a register holds: a number, or none, which is absent. 0 is an ordinary value and differs from absent.
+pub type Value = Option<u32>;
 
 // What an update does to a register.
 #[derive(Clone, Copy)]
@@ -47,20 +31,14 @@ impl Effect {
     pub fn adds(self) -> bool
         ensures { result ≡ is_add self }
     {
-        match self {
-            Effect::Assign(_) => false,
-            Effect::Add(_) => true,
-        }
+        matches!(self, Effect::Add(_))
     }
 
     // Its mark in a cell.
     pub fn mark(self) -> u8
         ensures { result ≡ mark_of self }
     {
-        match self {
-            Effect::Assign(_) => 0,
-            Effect::Add(_) => 1,
-        }
+        u8::from(self.adds())
     }
 
     // Its amount in a cell.
@@ -79,8 +57,8 @@ pub fn apply(e: Effect, old: Value) -> Value
     ensures { result ≡ applied e old }
 {
     match e {
-        Effect::Assign(v) => Value::Present(v),
-        Effect::Add(d) => Value::Present(std::num::wrapping_add_u32(old.or_zero(), d)),
+        Effect::Assign(v) => Some(v),
+        Effect::Add(d) => Some(std::num::wrapping_add_u32(old.unwrap_or(0), d)),
     }
 }
 
@@ -126,10 +104,7 @@ impl Record {
     pub fn is_update(self) -> bool
         ensures { result ≡ is_update self }
     {
-        if self.kind == Record::ASSIGN {
-            return true;
-        }
-        self.kind == Record::ADD
+        matches!(self.kind, Record::ASSIGN | Record::ADD)
     }
 
     // The effect of an update record.
@@ -146,16 +121,6 @@ impl Record {
     pub fn settles(self, t: u64) -> bool
         ensures { result ≡ (is_commit self && nat_le self.time t) }
     {
-        if self.kind != Record::COMMIT {
-            return false;
-        }
-        self.time <= t
+        self.kind == Record::COMMIT && self.time <= t
     }
-}
-
-// What recovery's walk over a journal finds: every record is one that an accepted call would write at its place, or the place of the first that is not.
-#[derive(Clone, Copy)]
-pub enum Walked {
-    Whole,
-    BadAt(usize),
 }

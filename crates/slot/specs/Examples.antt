@@ -1,8 +1,6 @@
 -- Slots of two transactions, computed. Assumes nothing.
-use Rattle.std.specs.Prelude.{true, false, List, [], ◌∷◌, ◌≡◌, refl}
-use Rattle.rules.specs.declared.Value.TheVariants.{Present}
+use Rattle.std.specs.Prelude.{true, false, List, [], ◌∷◌, ◌≡◌, refl, Some, None}
 use Rattle.rules.specs.declared.Effect.TheVariants.{Assign, Add}
-use Rattle.column.specs.declared.Found.TheVariants.{At, Nothing}
 use Rattle.slot.specs.declared.Slots.{Slots}
 use Rattle.slot.specs.Slot.{empty_slot, opened_slot}
 use Rattle.slot.specs.Slots.{empty_slots, lowest_free, first_slot, slot_of, slots_hold, opened_in, noted_in, closed_in}
@@ -18,16 +16,16 @@ unfolding lowest_free
 two_opened = refl
 
 -- the slot of the first is used again
-again : slot_of (opened_in (closed_in two 0) 7 9) 7 ≡ At 0
+again : slot_of (opened_in (closed_in two 0) 7 9) 7 ≡ Some 0
 unfolding lowest_free first_slot
 again = refl
 
 -- a freed slot is not found by its number, nor by 0
-freed : slot_of (closed_in two 0) 4 ≡ Nothing
+freed : slot_of (closed_in two 0) 4 ≡ None
 unfolding first_slot
 freed = refl
 
-not_zero : slot_of (closed_in two 0) 0 ≡ Nothing
+not_zero : slot_of (closed_in two 0) 0 ≡ None
 unfolding first_slot
 not_zero = refl
 
@@ -57,7 +55,7 @@ places = refl
 abbrev twice : List Note
 twice = notes_of (9 ∷ 9 ∷ []) (1 ∷ 5 ∷ []) (7 ∷ 0 ∷ []) 2
 
-older_counts : makes 9 twice (Present 10) ≡ Present 11
+older_counts : makes 9 twice (Some 10) ≡ Some 11
 older_counts = refl
 
 older_joined : note 9 (Add 2) twice ≡ record { key = 9; effect = Assign 5 } ∷ record { key = 9; effect = Add 3 } ∷ []

@@ -1,9 +1,8 @@
 -- What the answers of a search for a slot say of the slots. Assumes nothing.
-use Rattle.std.specs.Prelude.{Bool, true, false, ◌&&◌, ◌≡◌, ℕ, zero, suc, ◌+◌, ◌<◌, ◌≤◌}
+use Rattle.std.specs.Prelude.{Bool, true, false, ◌&&◌, ◌≡◌, ℕ, zero, suc, ◌+◌, ◌<◌, ◌≤◌, Some}
 use Rattle.std.proofs.Common.{⊎_elim, eq-or-lt_of_le, arith}
 use Rattle.rules.specs.Limits.{most_running}
 use Rattle.rules.specs.Bools.{split, and_left, and_right}
-use Rattle.column.specs.declared.Found.TheVariants.{At}
 use Rattle.slot.specs.declared.Slot.{Slot}
 use Rattle.slot.specs.declared.Slots.{Slots}
 use Rattle.slot.specs.Slots.{slot_at, is_occupied, first_from, first_slot}
@@ -27,12 +26,12 @@ module _ (p : Slot → Bool) (h : Slots) where
     pub before : (j : ℕ) → i ≤ j → j < r → is_met j ≡ false
 
   -- the slot found is the lowest
-  pub first_from_lem : (c i r : ℕ) → first_from p h i c ≡ At r → Lowest i c r
+  pub first_from_lem : (c i r : ℕ) → first_from p h i c ≡ Some r → Lowest i c r
   first_from_lem zero i r e = let z : ◌≡◌ {A = ℕ} 0 1 = cc in absurd (omega arith)
   first_from_lem (suc c) i r e =
       split (is_met i)
       (λ t.
-      let q : At i ≡ At r = rw t at e in
+      let q : Some i ≡ Some r = rw t at e in
       let z : i ≡ r = cc in
       record {
         from = omega arith;
@@ -52,6 +51,6 @@ module _ (p : Slot → Bool) (h : Slots) where
       })
 
   -- the slot found is the lowest of the eight
-  pub first_slot_lem : {r : ℕ} → first_slot p h ≡ At r → Lowest 0 most_running r
+  pub first_slot_lem : {r : ℕ} → first_slot p h ≡ Some r → Lowest 0 most_running r
   unfolding first_slot
   first_slot_lem {r} e = first_from_lem most_running 0 r e

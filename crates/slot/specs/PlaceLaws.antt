@@ -1,5 +1,5 @@
 -- What is found, opened, noted and closed in the slots is found, opened, noted and closed in the places that they mean. Assumes nothing.
-use Rattle.std.specs.Prelude.{true, ◌||◌, List, [], ◌∷◌, ◌≡◌, refl, ℕ, zero, suc, ◌+◌, ◌/◌, ◌%◌, ◌^◌, ◌<◌, ◌≤◌, ltb, length}
+use Rattle.std.specs.Prelude.{true, ◌||◌, List, [], ◌∷◌, ◌≡◌, refl, ℕ, zero, suc, ◌+◌, ◌/◌, ◌%◌, ◌^◌, ◌<◌, ◌≤◌, ltb, length, Some}
 use Rattle.std.proofs.Common.{ap₂, ◌∙◌, add-zero, zero-add, arith, eqb-true, ltb-true, ltb-false, get_or-set_other}
 use Rattle.std.proofs.lemmas.Bool.{eqb-false}
 use Rattle.std.specs.Int.Count.{ones, ones_step}
@@ -8,7 +8,6 @@ use Rattle.std.proofs.Math.Seq.{get_or-set_same}
 use Rattle.rules.specs.declared.Effect.{Effect}
 use Rattle.rules.specs.Limits.{most_running, most_keys}
 use Rattle.rules.specs.Bools.{split}
-use Rattle.column.specs.declared.Found.TheVariants.{At}
 use Rattle.slot.specs.declared.Slot.{Slot}
 use Rattle.slot.specs.declared.Slots.{Slots}
 use Rattle.slot.specs.Bits.{bit, zero_from}
@@ -77,22 +76,22 @@ module _ (h h' : Slots) (r : ℕ) (p : Place) (there : place_at h' r ≡ p) (oth
   after : (i c : ℕ) → r < i → places_from h' i c ≡ places_from h i c
   after i c l = same_from h h' i c (λ j m. others j (λ q. omega arith))
 
-  amend_from : (n i c : ℕ) → first_from (has_number n) h i c ≡ At r → places_from h' i c ≡ amend n p (places_from h i c)
+  amend_from : (n i c : ℕ) → first_from (has_number n) h i c ≡ Some r → places_from h' i c ≡ amend n p (places_from h i c)
   amend_from n i zero e = let z : ◌≡◌ {A = ℕ} 0 1 = cc in absurd (omega arith)
   amend_from n i (suc c) e =
       split (is_occupied h i)
       (λ o.
       split (has_number n (slot_at h i))
       (λ t.
-      let q : At i ≡ At r = rw (o, t) at e in
+      let q : Some i ≡ Some r = rw (o, t) at e in
       let z : i ≡ r = cc in
       rw (o, t) (ap₂ (λ (x : Place) (xs : List Place). x ∷ xs) (rw z there) (after (i + 1) c (omega arith))))
       (λ t.
-      let e' : first_from (has_number n) h (i + 1) c ≡ At r = rw (o, t) at e in
+      let e' : first_from (has_number n) h (i + 1) c ≡ Some r = rw (o, t) at e in
       let m = (first_from_lem (has_number n) h c (i + 1) r e').from in
       rw (others i (λ q. omega arith), o, t, amend_from n (i + 1) c e')))
       (λ o.
-      let e' : first_from (has_number n) h (i + 1) c ≡ At r = rw o at e in
+      let e' : first_from (has_number n) h (i + 1) c ≡ Some r = rw o at e in
       let m = (first_from_lem (has_number n) h c (i + 1) r e').from in
       rw (others i (λ q. omega arith), o, amend_from n (i + 1) c e'))
 
@@ -138,7 +137,7 @@ opened_places h n s l =
     n s 0 most_running refl refl m))
     (λ t. let m = ltb-false r most_running t in let w = zero_from_lem h.occupied 0 most_running in rw t (full_from h n s 0 most_running (omega arith)))
 
-module _ (h : Slots) (n : ℕ) {i : ℕ} (e : slot_of h n ≡ At i) where
+module _ (h : Slots) (n : ℕ) {i : ℕ} (e : slot_of h n ≡ Some i) where
   -- the place of a transaction that ends is free
   pub closed_places : places_of (closed_in h i) ≡ amend n free (places_of h)
   unfolding places_of first_slot

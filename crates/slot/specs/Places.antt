@@ -1,11 +1,9 @@
 -- What the slots mean: eight places, each free or taken by a transaction. The rows of a transaction stand the newest first. Assumes nothing.
-use Rattle.std.specs.Prelude.{Bool, false, cond, ◌||◌, List, [], ◌∷◌, ℕ, zero, suc, ◌+◌, eqb, ltb, get_or}
+use Rattle.std.specs.Prelude.{Bool, false, cond, ◌||◌, List, [], ◌∷◌, ℕ, zero, suc, ◌+◌, eqb, ltb, get_or, Option, Some, None}
 use Rattle.rules.specs.declared.Effect.{Effect}
-use Rattle.rules.specs.declared.Value.{Value}
+use Rattle.rules.specs.Value.{Value}
 use Rattle.rules.specs.Effects.{applied, joined, effect_by}
 use Rattle.rules.specs.Limits.{most_running}
-use Rattle.column.specs.declared.Found.{Found}
-use Rattle.column.specs.declared.Found.TheVariants.{At, Nothing}
 use Rattle.slot.specs.declared.Slot.{Slot}
 use Rattle.slot.specs.declared.Slots.{Slots}
 use Rattle.slot.specs.Slot.{effect_at}
@@ -88,18 +86,18 @@ abbrev pub slot_rows : Slot → List Note
 slot_rows s = notes_of s.keys s.values s.marks s.count
 
 -- what the row that was found makes of a value
-abbrev pub made_in : Slot → Found → Value → Value
-made_in s (At i) old = applied (effect_at s i) old
-made_in s Nothing old = old
+abbrev pub made_in : Slot → Option ℕ → Value → Value
+made_in s (Some i) old = applied (effect_at s i) old
+made_in s None old = old
 
 -- a slot as the place of its transaction
 abbrev pub taken_by : Slot → Place
 taken_by s = taken s.number s.snapshot (slot_rows s)
 
 -- the slot that was found as the place of its transaction
-abbrev pub place_in : Slots → Found → Place
-place_in h (At i) = taken_by (slot_at h i)
-place_in h Nothing = free
+abbrev pub place_in : Slots → Option ℕ → Place
+place_in h (Some i) = taken_by (slot_at h i)
+place_in h None = free
 
 -- what slot i means
 abbrev pub place_at : Slots → ℕ → Place

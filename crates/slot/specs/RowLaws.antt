@@ -1,15 +1,13 @@
 -- The rows of a slot mean what is found and noted in it. Assumes nothing.
-use Rattle.std.specs.Prelude.{true, false, cond, ◌||◌, List, [], ◌∷◌, ◌≡◌, refl, ℕ, zero, suc, ◌<◌, eqb, ltb, length, get_or, set, take}
+use Rattle.std.specs.Prelude.{true, false, cond, ◌||◌, List, [], ◌∷◌, ◌≡◌, refl, ℕ, zero, suc, ◌<◌, eqb, ltb, length, get_or, set, take, Option, Some, None}
 use Rattle.std.proofs.lemmas.Bool.{false≢true}
 use Rattle.std.proofs.Common.{⊎_elim, ap, eq-or-lt_of_le, le_of_suc-le-suc, add-one, arith, eq-eqb, ne_eqb, eqb-true, ltb-true, length-set, get_or-set_same, get_or-set_other, get_or-take, length-take-le}
 use Rattle.rules.specs.declared.Effect.{Effect}
-use Rattle.rules.specs.declared.Value.{Value}
+use Rattle.rules.specs.Value.{Value}
 use Rattle.rules.specs.Effects.{applied, joined, mark_of, amount_of, effect_by}
 use Rattle.rules.specs.EffectLaws.{applied_joined, cells_hold}
 use Rattle.rules.specs.Limits.{most_keys}
 use Rattle.rules.specs.Bools.{split, or_right, or_none_left, or_none_right, or_false, not_both}
-use Rattle.column.specs.declared.Found.{Found}
-use Rattle.column.specs.declared.Found.TheVariants.{At, Nothing}
 use Rattle.column.specs.Laws.{first_at, absent_nothing}
 use Rattle.slot.specs.declared.Slot.{Slot}
 use Rattle.slot.specs.Slot.{key_row, noted}
@@ -143,9 +141,9 @@ module _ (keys values marks : List ℕ) (k : ℕ) where
         ))
 
 -- follow an answer each way
-pub cases : {P : Type 0} (f : Found) → ((i : ℕ) → f ≡ At i → P) → (f ≡ Nothing → P) → P
-cases (At i) g n = g i refl
-cases Nothing g n = n refl
+pub cases : {P : Type 0} (f : Option ℕ) → ((i : ℕ) → f ≡ Some i → P) → (f ≡ None → P) → P
+cases (Some i) g n = g i refl
+cases None g n = n refl
 
 -- row i is the first in use that has the key
 pub record RowAt (s : Slot) (k i : ℕ) : Type 0 where
@@ -159,7 +157,7 @@ module _ (s : Slot) (w : Rowed s) (k : ℕ) where
   looked = length-take-le s.count s.keys (omega (arith, w.keys, w.count))
 
   -- the row found is the first in use that has the key
-  pub row_found : (i : ℕ) → key_row s k ≡ At i → RowAt s k i
+  pub row_found : (i : ℕ) → key_row s k ≡ Some i → RowAt s k i
   row_found i e =
       let f = first_at k (take s.count s.keys) {i = i} e in
       let b : i < s.count = rw looked at f.row in
@@ -170,14 +168,14 @@ module _ (s : Slot) (w : Rowed s) (k : ℕ) where
       }
 
   -- where none is found, no row in use has the key
-  pub row_absent : key_row s k ≡ Nothing → (j : ℕ) → j < s.count → get_or s.keys j 0 ≡ k → ⊥
+  pub row_absent : key_row s k ≡ None → (j : ℕ) → j < s.count → get_or s.keys j 0 ≡ k → ⊥
   row_absent e j l = rw (get_or-take s.count s.keys j 0 l) at (absent_nothing k (take s.count s.keys) e j (rw looked l))
 
   -- a key that is found has a row
   has_found : (i : ℕ) → RowAt s k i → has_key k (slot_rows s) ≡ true
   has_found i r = has_at s.keys s.values s.marks k s.count i r.below r.key
 
-  has_absent : key_row s k ≡ Nothing → has_key k (slot_rows s) ≡ false
+  has_absent : key_row s k ≡ None → has_key k (slot_rows s) ≡ false
   has_absent e = has_none s.keys s.values s.marks k s.count (row_absent e)
 
   -- a key has a row exactly if one is found

@@ -1,10 +1,8 @@
 -- Rule 3.8, one slot: number, snapshot, count, and a row for each key with what its updates come to. Assumes nothing.
-use Rattle.std.specs.Prelude.{cond, ℕ, ◌+◌, ltb, get_or, take, set, replicate}
+use Rattle.std.specs.Prelude.{cond, ℕ, ◌+◌, ltb, get_or, take, set, replicate, Option, Some, None}
 use Rattle.rules.specs.declared.Effect.{Effect}
 use Rattle.rules.specs.Effects.{joined, mark_of, amount_of, effect_by}
 use Rattle.rules.specs.Limits.{most_keys}
-use Rattle.column.specs.declared.Found.{Found}
-use Rattle.column.specs.declared.Found.TheVariants.{At, Nothing}
 use Rattle.column.specs.Column.{first_row}
 use Rattle.slot.specs.declared.Slot.{Slot}
 
@@ -25,7 +23,7 @@ abbrev pub empty_slot : Slot
 empty_slot = opened_slot 0 0
 
 -- the row of a key: of one key twice in a slot the first
-abbrev pub key_row : Slot → ℕ → Found
+abbrev pub key_row : Slot → ℕ → Option ℕ
 key_row s k = first_row k (take s.count s.keys)
 
 -- the effect in row i
@@ -57,9 +55,9 @@ extended s k e =
     }
 
 -- the row that was found takes an effect up, or a new one gets it if there is room
-abbrev pub noted_at : Found → Slot → ℕ → Effect → Slot
-noted_at (At i) s k e = refilled s i (joined (effect_at s i) e)
-noted_at Nothing s k e = cond (ltb s.count most_keys) (extended s k e) s
+abbrev pub noted_at : Option ℕ → Slot → ℕ → Effect → Slot
+noted_at (Some i) s k e = refilled s i (joined (effect_at s i) e)
+noted_at None s k e = cond (ltb s.count most_keys) (extended s k e) s
 
 -- an update noted: the effect e on key k
 abbrev pub noted : Slot → ℕ → Effect → Slot

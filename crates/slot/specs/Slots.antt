@@ -1,9 +1,7 @@
 -- Rule 3.8, the eight slots: occupied ones are the one bits of a single number. Assumes nothing.
-use Rattle.std.specs.Prelude.{Bool, true, false, cond, not, ◌&&◌, [], ℕ, zero, suc, ◌+◌, eqb, ltb, get_or, set, replicate}
+use Rattle.std.specs.Prelude.{Bool, true, false, cond, not, ◌&&◌, [], ℕ, zero, suc, ◌+◌, eqb, ltb, get_or, set, replicate, Option, Some, None}
 use Rattle.rules.specs.declared.Effect.{Effect}
 use Rattle.rules.specs.Limits.{most_running, most_keys}
-use Rattle.column.specs.declared.Found.{Found}
-use Rattle.column.specs.declared.Found.TheVariants.{At, Nothing}
 use Rattle.slot.specs.declared.Slot.{Slot}
 use Rattle.slot.specs.declared.Slots.{Slots}
 use Rattle.slot.specs.Bits.{bit, with_bit, zero_from}
@@ -30,18 +28,18 @@ unfoldable pub lowest_free : Slots → ℕ
 lowest_free h = zero_from h.occupied 0 most_running
 
 -- of c slots from i on the lowest occupied one that meets a test
-abbrev pub first_from : (Slot → Bool) → Slots → ℕ → ℕ → Found
-first_from p h i zero = Nothing
-first_from p h i (suc c) = cond (is_occupied h i && p (slot_at h i)) (At i) (first_from p h (i + 1) c)
+abbrev pub first_from : (Slot → Bool) → Slots → ℕ → ℕ → Option ℕ
+first_from p h i zero = None
+first_from p h i (suc c) = cond (is_occupied h i && p (slot_at h i)) (Some i) (first_from p h (i + 1) c)
 
 -- the lowest occupied slot that meets a test
-unfoldable pub first_slot : (Slot → Bool) → Slots → Found
+unfoldable pub first_slot : (Slot → Bool) → Slots → Option ℕ
 first_slot p h = first_from p h 0 most_running
 
 -- something was found
-abbrev pub is_found : Found → Bool
-is_found (At i) = true
-is_found Nothing = false
+abbrev pub is_found : Option ℕ → Bool
+is_found (Some i) = true
+is_found None = false
 
 -- a slot has the number
 abbrev pub has_number : ℕ → Slot → Bool
@@ -56,7 +54,7 @@ abbrev pub is_overfull : Slot → Bool
 is_overfull s = ltb most_keys s.count
 
 -- of several occupied slots with one number the lowest
-abbrev pub slot_of : Slots → ℕ → Found
+abbrev pub slot_of : Slots → ℕ → Option ℕ
 slot_of h n = first_slot (has_number n) h
 
 -- no occupied slot has more than 32 keys

@@ -1,9 +1,8 @@
 -- No second answer satisfies a contract. Assumes nothing.
-use Rattle.std.specs.Prelude.{Bool, ◌≡◌, ℕ}
+use Rattle.std.specs.Prelude.{Bool, ◌≡◌, ℕ, Option}
 use Rattle.std.proofs.Common.{sym, ◌∙◌}
 use Rattle.std.specs.Int.Count.{ones}
 use Rattle.rules.specs.declared.Effect.{Effect}
-use Rattle.column.specs.declared.Found.{Found}
 use Rattle.slot.specs.declared.Slot.{Slot}
 use Rattle.slot.specs.declared.Slots.{Slots}
 use Rattle.slot.specs.Slot.{empty_slot, opened_slot, key_row, effect_at, noted}
@@ -16,7 +15,7 @@ free_unique p q = p ∙ sym q
 pub open_unique : (number snapshot : ℕ) {r s : Slot} → r ≡ opened_slot number snapshot → s ≡ opened_slot number snapshot → r ≡ s
 open_unique number snapshot p q = p ∙ sym q
 
-pub find_row_unique : (slot : Slot) (key : ℕ) {r s : Found} → r ≡ key_row slot key → s ≡ key_row slot key → r ≡ s
+pub find_row_unique : (slot : Slot) (key : ℕ) {r s : Option ℕ} → r ≡ key_row slot key → s ≡ key_row slot key → r ≡ s
 find_row_unique slot key p q = p ∙ sym q
 
 pub effect_unique : (slot : Slot) (i : ℕ) {r s : Effect} → r ≡ effect_at slot i → s ≡ effect_at slot i → r ≡ s
@@ -41,7 +40,7 @@ module _ (slots : Slots) where
   pub at_unique : (index : ℕ) {r s : Slot} → r ≡ slot_at slots index → s ≡ slot_at slots index → r ≡ s
   at_unique index p q = p ∙ sym q
 
-  pub find_slot_unique : (number : ℕ) {r s : Found} → r ≡ slot_of slots number → s ≡ slot_of slots number → r ≡ s
+  pub find_slot_unique : (number : ℕ) {r s : Option ℕ} → r ≡ slot_of slots number → s ≡ slot_of slots number → r ≡ s
   find_slot_unique number p q = p ∙ sym q
 
   pub opened_unique : (number snapshot : ℕ) {r s : Slots} → r ≡ opened_in slots number snapshot → s ≡ opened_in slots number snapshot → r ≡ s

@@ -9,7 +9,6 @@ ghost use Rattle.slot.specs.Slot.{noted as noted_slot};
 ghost use Rattle.slot.specs.Slots.{empty_slots, slot_at, is_occupied, lowest_free, slot_of, slots_shaped, slots_hold, opened_in, closed_in};
 ghost use Rattle.slot.specs.Formed.{Formed};
 
-use column::Found;
 use rules::Effect;
 
 // A transaction's slot: its number and snapshot, and a row for each key that it wrote, with what its updates of it come to: the mark 0 assigns
@@ -67,9 +66,9 @@ impl Slot {
     }
 
     // The row of a key: the first below the count that has it, one of the 32 whatever the count.
-    pub fn find(self, key: u32) -> Found
+    pub fn find(self, key: u32) -> Option<usize>
         ensures value { result ≡ key_row self key }
-        ensures by_index { (i : ℕ) → result ≡ Found.At i → i < most_keys }
+        ensures by_index { (i : ℕ) → result ≡ Some i → i < most_keys }
     {
         let keys = self.keys;
         column::find(&keys, self.count, key)
@@ -89,13 +88,13 @@ impl Slot {
     {
         let count = self.count;
         match self.find(key) {
-            Found::At(i) => {
+            Some(i) => {
                 let both = rules::join(self.effect(i), e);
                 self.values[i] = both.amount();
                 self.marks[i] = both.mark();
                 self
             }
-            Found::Nothing => {
+            None => {
                 let amount = e.amount();
                 if count >= Slot::KEYS {
                     return self;
@@ -166,21 +165,21 @@ impl Slots {
     }
 
     // The lowest occupied slot with the number, one of the eight.
-    pub fn find(self, number: u32) -> Found
+    pub fn find(self, number: u32) -> Option<usize>
         ensures value { result ≡ slot_of self number }
-        ensures by_index { (i : ℕ) → result ≡ Found.At i → i < most_running }
+        ensures by_index { (i : ℕ) → result ≡ Some i → i < most_running }
     {
         let mut i = 0;
         while i < Slots::SLOTS {
             if self.is_occupied(i) {
                 let s = self.at(i);
                 if s.number == number {
-                    return Found::At(i);
+                    return Some(i);
                 }
             }
             i += 1;
         }
-        Found::Nothing
+        None
     }
 
     // A new transaction in the lowest-numbered free slot; nothing changes where none is free.

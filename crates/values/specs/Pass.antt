@@ -1,9 +1,8 @@
 -- What the value of a key asks of what is lent, and what its pass over the records carries: the key's updates so far, kept in three columns in
 -- the order of the journal. Assumes nothing.
-use Rattle.std.specs.Prelude.{◌≡◌, false, cond, List, ℕ, zero, suc, ◌*◌, ◌≤◌, eqb, length, get_or}
+use Rattle.std.specs.Prelude.{◌≡◌, false, cond, List, ℕ, zero, suc, ◌*◌, ◌≤◌, eqb, length, get_or, Some, None, Option}
 use Rattle.rules.specs.declared.Record.{Record}
-use Rattle.rules.specs.declared.Value.{Value}
-use Rattle.rules.specs.declared.Value.TheVariants.{Absent, Present}
+use Rattle.rules.specs.Value.{Value}
 use Rattle.rules.specs.declared.Effect.{Effect}
 use Rattle.rules.specs.declared.Effect.TheVariants.{Assign, Add}
 use Rattle.rules.specs.Kinds.{record_size}
@@ -13,8 +12,6 @@ use Rattle.rules.specs.Values.{value}
 use Rattle.rules.specs.Limits.{most_records}
 use Rattle.rules.specs.Columns.{Rows}
 use Rattle.record.specs.Bytes.{records_in}
-use Rattle.column.specs.declared.Found.{Found}
-use Rattle.column.specs.declared.Found.TheVariants.{At, Nothing}
 use Rattle.values.specs.declared.value.Settled.{Settled}
 
 -- the used records stand in the journal, and are not too many
@@ -68,6 +65,6 @@ abbrev pub read_on : Value → List Record → ℕ → ℕ → ℕ → Value
 read_on start rs n snapshot k = effects k (of n rs) (value start k snapshot rs)
 
 -- the value of the row that was found, or absent
-abbrev pub found_value : List ℕ → Found → Value
-found_value values (At i) = Present (get_or values i 0)
-found_value values Nothing = Absent
+abbrev pub found_value : List ℕ → Option ℕ → Value
+found_value values (Some i) = Some (get_or values i 0)
+found_value values None = None

@@ -1,7 +1,7 @@
 -- No second answer satisfies the contract of a public function of this crate. Assumes nothing.
 use Rattle.std.specs.Prelude.{◌≡◌, List, ℕ}
 use Rattle.std.proofs.Common.{sym, ◌∙◌}
-use Rattle.rules.specs.declared.Value.{Value}
+use Rattle.rules.specs.Value.{Value}
 use Rattle.rules.specs.Values.{row_value, value_at, value, read_in}
 use Rattle.rules.specs.Columns.{first_rows}
 use Rattle.record.specs.Bytes.{records_in}

@@ -8,7 +8,6 @@ ghost use Rattle.rules.specs.Columns.{first_rows, Rows};
 ghost use Rattle.record.specs.Bytes.{records_in};
 ghost use Rattle.values.specs.Pass.{Records, Inside, Aside, Unwritten, kept_step, kept_effects, Settles, read_on};
 
-use column::Found;
 use journal::Journal;
 use rules::{Effect, Record, Value};
 
@@ -221,8 +220,8 @@ pub fn base_value(keys: &[u32], values: &[u32], rows: usize, k: u32) -> Value
 {
     let found = column::find(keys, rows, k);
     match found {
-        Found::At(i) => Value::Present(values[i]),
-        Found::Nothing => Value::Absent,
+        Some(i) => Some(values[i]),
+        None => None,
     }
 }
 

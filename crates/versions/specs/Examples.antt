@@ -1,7 +1,5 @@
 -- Four versions, computed: key 5 at 1, 3 and 3, key 7 at 2, which adds alone made. Assumes nothing.
-use Rattle.std.specs.Prelude.{◌≡◌, refl, true, false, List, [], ◌∷◌}
-use Rattle.column.specs.declared.Found.TheVariants as found
-use Rattle.rules.specs.declared.Value.TheVariants.{Absent, Present}
+use Rattle.std.specs.Prelude.{◌≡◌, refl, true, false, List, [], ◌∷◌, Some, None}
 use Rattle.versions.specs.declared.Version.{Version}
 use Rattle.versions.specs.Versions.{Columns, columns, versions_of, newest, row_of, value_at, later, kept_from, list_at}
 use Rattle.versions.specs.Columns.{column, thinned}
@@ -14,21 +12,21 @@ abbrev four : List Version
 four = versions_of 4 cells
 
 -- the earliest row among equals
-earliest : row_of (newest 5 9 four) ≡ found.At 2
+earliest : row_of (newest 5 9 four) ≡ Some 2
 earliest = refl
 
 -- a version at t counts, one after t does not
-at_t : value_at 5 3 four ≡ Present 30
+at_t : value_at 5 3 four ≡ Some 30
 at_t = refl
 
-before_t : value_at 5 2 four ≡ Present 10
+before_t : value_at 5 2 four ≡ Some 10
 before_t = refl
 
-after_t : value_at 7 1 four ≡ Absent
+after_t : value_at 7 1 four ≡ None
 after_t = refl
 
 -- the row behind the used ones does not count
-unused : value_at 9 9 four ≡ Absent
+unused : value_at 9 9 four ≡ None
 unused = refl
 
 -- later is after the snapshot, not at it

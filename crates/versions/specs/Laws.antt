@@ -1,10 +1,8 @@
 -- The columns and the versions that they hold, and what a search over these says of the rows. Assumes nothing.
-use Rattle.std.specs.Prelude.{◌≡◌, refl, Bool, true, false, not, ◌&&◌, List, [], ◌∷◌, ◌++◌, ℕ, zero, suc, ◌+◌, ◌-◌, ◌≤◌, ◌<◌, eqb, leb, ltb, length, get_or, drop, set, replicate}
+use Rattle.std.specs.Prelude.{◌≡◌, refl, Bool, true, false, not, ◌&&◌, List, [], ◌∷◌, ◌++◌, ℕ, zero, suc, ◌+◌, ◌-◌, ◌≤◌, ◌<◌, eqb, leb, ltb, length, get_or, drop, set, replicate, Some, None}
 use Rattle.std.proofs.Common.{ap, ap₂, ◌∙◌, append_assoc, not-suc-le-zero, add-one, arith, eqb-true, leb-true, leb-false, ltb-true, ltb-false, length-append, get_or-set_same, get_or-set_other}
 use Rattle.std.proofs.lemmas.Bool.{eqb-false}
 use Rattle.std.proofs.lemmas.List.{get_or_at}
-use Rattle.column.specs.declared.Found.TheVariants as found
-use Rattle.rules.specs.declared.Value.TheVariants.{Absent}
 use Rattle.rules.specs.Bools.{split, or_right, or_none_left, or_none_right}
 use Rattle.rules.specs.Lists.{among}
 use Rattle.rules.proofs.Listing.{Lists, listed_lists}
@@ -196,24 +194,24 @@ module _ (k t : ℕ) (cs : Columns) where
 
   module _ (n : ℕ) where
     -- the version that stands in the row found
-    pub found_version : {i : ℕ} → row_of (newest k t (versions_of n cs)) ≡ found.At i
+    pub found_version : {i : ℕ} → row_of (newest k t (versions_of n cs)) ≡ Some i
         → newest k t (versions_of n cs) ≡ at i (get_or cs.times i 0) (get_or cs.values i 0)
     found_version {i} = of (newest k t (versions_of n cs)) (newest_says n)
       where
-        of : (b : Best) → Says n b → row_of b ≡ found.At i → b ≡ at i (get_or cs.times i 0) (get_or cs.values i 0)
+        of : (b : Best) → Says n b → row_of b ≡ Some i → b ≡ at i (get_or cs.times i 0) (get_or cs.values i 0)
         of nothing h e = let z : ◌≡◌ {A = ℕ} 0 1 = cc in absurd (omega arith)
         of (at j u v) h e = let z : j ≡ i = cc in rw (← h.time, ← h.value, z)
 
     -- where no row is found there is no version
-    pub none_found : row_of (newest k t (versions_of n cs)) ≡ found.Nothing → newest k t (versions_of n cs) ≡ nothing
+    pub none_found : row_of (newest k t (versions_of n cs)) ≡ None → newest k t (versions_of n cs) ≡ nothing
     none_found = of (newest k t (versions_of n cs))
       where
-        of : (b : Best) → row_of b ≡ found.Nothing → b ≡ nothing
+        of : (b : Best) → row_of b ≡ None → b ≡ nothing
         of nothing e = refl
         of (at j u v) e = let z : ◌≡◌ {A = ℕ} 0 1 = cc in absurd (omega arith)
 
     -- the row found is the newest
-    pub found_newest : {i : ℕ} → row_of (newest k t (versions_of n cs)) ≡ found.At i → NewestAt n i (get_or cs.times i 0) (get_or cs.values i 0)
+    pub found_newest : {i : ℕ} → row_of (newest k t (versions_of n cs)) ≡ Some i → NewestAt n i (get_or cs.times i 0) (get_or cs.values i 0)
     found_newest e = rw (found_version e) at (newest_says n)
 
 -- a version later than s among the first rows is one among more
@@ -257,7 +255,7 @@ pub length_kept : (T n : ℕ) (cs : Columns) → length (kept_from T (versions_o
 length_kept T n cs = omega (arith, length_thin T (versions_of n cs) (versions_of n cs), length_versions n cs)
 
 -- a key that no version has is absent at every time
-pub unknown_absent : (k t : ℕ) (vs : List Version) → among k (keys_of vs) ≡ false → value_at k t vs ≡ Absent
+pub unknown_absent : (k t : ℕ) (vs : List Version) → among k (keys_of vs) ≡ false → value_at k t vs ≡ None
 unknown_absent k t [] h = refl
 unknown_absent k t (v ∷ older) h =
     rw (or_none_left (eqb v.key k) (among k (keys_of older)) h)

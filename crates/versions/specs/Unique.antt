@@ -1,8 +1,7 @@
 -- No second answer, and no second contents of the lent columns, satisfies a contract. Assumes nothing.
-use Rattle.std.specs.Prelude.{◌≡◌, Bool, List, [], ℕ, ltb}
+use Rattle.std.specs.Prelude.{◌≡◌, Bool, List, [], ℕ, ltb, Option}
 use Rattle.std.proofs.Common.{sym, ◌∙◌, arith, ltb-true, ltb-false}
-use Rattle.column.specs.declared.Found.{Found}
-use Rattle.rules.specs.declared.Value.{Value}
+use Rattle.rules.specs.Value.{Value}
 use Rattle.rules.specs.declared.Effect.{Effect}
 use Rattle.rules.specs.Effects.{applied}
 use Rattle.rules.specs.Bools.{split}
@@ -12,7 +11,7 @@ use Rattle.versions.specs.Columns.{with_version}
 use Rattle.versions.specs.Search.{FirstLate}
 
 module _ (n : ℕ) (ks ts : List ℕ) where
-  pub newest_row_unique : (k t : ℕ) {r s : Found} → ((cs : Columns) → r ≡ row_of (newest k t (versions_of n (keyed ks ts cs))))
+  pub newest_row_unique : (k t : ℕ) {r s : Option ℕ} → ((cs : Columns) → r ≡ row_of (newest k t (versions_of n (keyed ks ts cs))))
       → ((cs : Columns) → s ≡ row_of (newest k t (versions_of n (keyed ks ts cs)))) → r ≡ s
   newest_row_unique k t p q = p no_columns ∙ sym (q no_columns)
 

@@ -1,10 +1,7 @@
 -- Rules 3.6, 3.8 and 3.10 on the versions of the map store, the newest row first: the newest version of a key at or before a time, its value,
 -- a version later than a snapshot, what a checkpoint keeps, and the list at a time. Assumes nothing.
-use Rattle.std.specs.Prelude.{Bool, true, false, cond, not, ◌&&◌, ◌||◌, List, [], ◌∷◌, ℕ, zero, suc, eqb, leb, ltb, length, get_or}
-use Rattle.column.specs.declared.Found.{Found}
-use Rattle.column.specs.declared.Found.TheVariants as found
-use Rattle.rules.specs.declared.Value.{Value}
-use Rattle.rules.specs.declared.Value.TheVariants.{Absent, Present}
+use Rattle.std.specs.Prelude.{Bool, true, false, cond, not, ◌&&◌, ◌||◌, List, [], ◌∷◌, ℕ, zero, suc, eqb, leb, ltb, length, get_or, Option, Some, None}
+use Rattle.rules.specs.Value.{Value}
 use Rattle.rules.specs.Values.{Row}
 use Rattle.rules.specs.Lists.{listed}
 use Rattle.versions.specs.declared.Version.{Version}
@@ -58,14 +55,14 @@ newest k t [] = nothing
 newest k t (v ∷ older) = newest_step k t v (length older) (newest k t older)
 
 -- the row of what was found
-abbrev pub row_of : Best → Found
-row_of nothing = found.Nothing
-row_of (at i t v) = found.At i
+abbrev pub row_of : Best → Option ℕ
+row_of nothing = None
+row_of (at i t v) = Some i
 
 -- the value of what was found
 abbrev pub shown : Best → Value
-shown nothing = Absent
-shown (at i t v) = Present v
+shown nothing = None
+shown (at i t v) = Some v
 
 -- the value of k at t
 abbrev pub value_at : ℕ → ℕ → List Version → Value

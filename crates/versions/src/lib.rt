@@ -10,7 +10,6 @@ ghost use Rattle.versions.specs.Versions.{columns, versions_of, value_at};
 ghost use Rattle.versions.specs.Columns.{Spans, with_version};
 ghost use Rattle.versions.specs.Search.{some, Passed};
 
-use column::Found;
 pub use conflict::{first_late, is_later};
 use rules::{Effect, Value};
 pub use search::newest_row;
@@ -87,8 +86,8 @@ pub fn value_at(keys: &[u32], times: &[u64], values: &[u32], used: usize, k: u32
 {
     let found = search::newest_row(keys, times, used, k, t);
     match found {
-        Found::At(i) => Value::Present(values[i]),
-        Found::Nothing => Value::Absent,
+        Some(i) => Some(values[i]),
+        None => None,
     }
 }
 
@@ -106,7 +105,7 @@ pub fn applied_at(
     ensures { (marks : List ℕ) → result ≡ applied e (value_at k t (versions_of used (columns keys.now times.now values.now marks))) }
 {
     match e {
-        Effect::Assign(v) => Value::Present(v),
+        Effect::Assign(v) => Some(v),
         Effect::Add(_) => rules::apply(e, value_at(keys, times, values, used, k, t)),
     }
 }

@@ -2,11 +2,10 @@
 ghost use Rattle.std.specs.Prelude.{◌≡◌, ◌+◌, ◌≤◌, ◌<◌, length};
 ghost use Rattle.versions.specs.Versions.{Columns, keyed, versions_of, row_of, newest};
 
-use column::Found;
 
 // Where the newest version of k at or before t is among the rows up to row i; best is where it is among those before.
 // A later time alone replaces it, so that the earliest row among equals stays.
-fn newer_row(keys: &[u32], times: &[u64], i: usize, k: u32, t: u64, best: Found) -> Found
+fn newer_row(keys: &[u32], times: &[u64], i: usize, k: u32, t: u64, best: Option<usize>) -> Option<usize>
     requires { (i < length keys.now) × (i < length times.now) × ((others : Columns) → best ≡ row_of (newest k t (versions_of i (keyed keys.now times.now others)))) }
     ensures { (others : Columns) → result ≡ row_of (newest k t (versions_of (i + 1) (keyed keys.now times.now others))) }
 {
@@ -17,13 +16,13 @@ fn newer_row(keys: &[u32], times: &[u64], i: usize, k: u32, t: u64, best: Found)
         return best;
     }
     match best {
-        Found::At(j) => {
+        Some(j) => {
             if times[j] < times[i] {
-                return Found::At(i);
+                return Some(i);
             }
-            Found::At(j)
+            Some(j)
         }
-        Found::Nothing => Found::At(i),
+        None => Some(i),
     }
 }
 
@@ -35,8 +34,8 @@ fn newer_rows(
     to: usize,
     k: u32,
     t: u64,
-    best: Found,
-) -> Found
+    best: Option<usize>,
+) -> Option<usize>
     requires { (from ≤ to) × (to ≤ length keys.now) × (to ≤ length times.now) × ((others : Columns) → best ≡ row_of (newest k t (versions_of from (keyed keys.now times.now others)))) }
     ensures { (others : Columns) → result ≡ row_of (newest k t (versions_of to (keyed keys.now times.now others))) }
 {
@@ -50,11 +49,11 @@ fn newer_rows(
 }
 
 // Rule 3.8: the row of the newest version of k at or before t: the greatest time, the earliest row among equals.
-pub fn newest_row(keys: &[u32], times: &[u64], used: usize, k: u32, t: u64) -> Found
+pub fn newest_row(keys: &[u32], times: &[u64], used: usize, k: u32, t: u64) -> Option<usize>
     requires { (used ≤ length keys.now) × (used ≤ length times.now) }
     ensures { (others : Columns) → result ≡ row_of (newest k t (versions_of used (keyed keys.now times.now others))) }
 {
-    let mut best = Found::Nothing;
+    let mut best = None;
     let mut i = 0;
     let found = loop {
         i = crate::pass(keys, i, used, k);

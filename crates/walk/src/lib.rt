@@ -10,9 +10,8 @@ ghost use Rattle.record.specs.Bytes.{records_in};
 ghost use Rattle.journal.specs.Past.{Past};
 ghost use Rattle.walk.specs.Walk.{started, pushed, numbered_by, timely_by, is_blank, Without, Open, Tracks, Stepped, SnapshotOf};
 
-use column::Found;
 use journal::Journal;
-use rules::{Record, Walked};
+use rules::Record;
 
 // The highest number that a transaction has.
 const LAST_NUMBER: u32 = Journal::NO_NUMBER - 1;
@@ -103,8 +102,8 @@ impl State {
         let snapshots = self.snapshots;
         let count = self.count;
         match column::find(&numbers, count, n) {
-            Found::At(j) => snapshots[j],
-            Found::Nothing => 0,
+            Some(j) => snapshots[j],
+            None => 0,
         }
     }
 
@@ -225,7 +224,7 @@ fn judge(journal: &[u8], i: usize, low: u64, r: Record, s: State) -> bool
 }
 
 // The place of the first record that fails, counted from 0, if there is one.
-pub fn walk(journal: &[u8], used: usize, low: u64) -> Walked
+pub fn walk(journal: &[u8], used: usize, low: u64) -> Option<usize>
     requires { (used ≤ most_records) × (used * record_size ≤ length journal.now) }
     ensures { result ≡ walk_in low (records_in used journal.now) }
 {
@@ -234,10 +233,10 @@ pub fn walk(journal: &[u8], used: usize, low: u64) -> Walked
     while i < used {
         let r = record::read(journal, i);
         if !judge(journal, i, low, r, s) {
-            return Walked::BadAt(i);
+            return Some(i);
         }
         s = s.step(r);
         i += 1;
     }
-    Walked::Whole
+    None
 }

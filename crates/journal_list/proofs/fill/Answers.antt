@@ -6,7 +6,7 @@ use Prim.Native.Nat.{ℕ, ◌≤◌}
 use native.Mathlib.Omega.{arith}
 use lib.Dec.{ltb}
 use lib.ListN.{length}
-use Rattle.rules.specs.declared.Value.TheVariants.{Present}
+use Rattle.std.specs.Prelude.{Some}
 use Rattle.rules.specs.Columns.{Rows, Filled}
 use Rattle.rules.specs.Calls.{last_of, list_of}
 use Rattle.answer.specs.Reply.{accepted}
@@ -34,9 +34,9 @@ module _ (h : Head) (keys values j : List ℕ) (t : ℕ) (listed contents : List
   module _ (low : h.low ≤ t) (past : ltb (last_of (meaning h keys values j)) t ≡ false) (n : ℕ)
       (count : n ≡ length (list_of t (meaning h keys values j))) where
     made : (listed' contents' : List ℕ) → n ≤ length listed → Filled (list_of t (meaning h keys values j)) listed contents listed' contents'
-        → ListedBy h keys values j t listed contents (accepted (Present n)) listed' contents'
+        → ListedBy h keys values j t listed contents (accepted (Some n)) listed' contents'
     made listed' contents' l f =
-        list_filled h keys values j t listed contents e (accepted (Present n))
+        list_filled h keys values j t listed contents e (accepted (Some n))
         (list_rows (length listed) t (meaning h keys values j) low false (sym past) refl n count l) listed' contents' refl f
 
 pub returns-then-rows-used : goal.returns-then-rows-used

@@ -11,4 +11,4 @@ keep_done-kept-requires c =
     let a = c.args in
     let z = sym c.shaped.ensures ∙ c.if-not-shaped.false in
     let q = recoverable a.h a.keys.now (length a.values.now) (length a.journal.now) a.survived z in
-    (q.few, q.there, q.within, walk_whole a.h.low (surviving a.survived a.journal.now) (sym c.walk-walked.ensures ∙ c.in-Whole.is))
+    (q.few, q.there, q.within, walk_whole a.h.low (surviving a.survived a.journal.now) (sym c.walk-walked.ensures ∙ c.in-None.is))

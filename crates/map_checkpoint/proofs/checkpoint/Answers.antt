@@ -1,6 +1,6 @@
 -- `map_checkpoint::checkpoint` meets its contract: a law for each way out. Assumes nothing.
 use mathlib.Core.Path.{sym, ◌∙◌}
-use Rattle.rules.specs.declared.Value.TheVariants.{Absent}
+use Rattle.std.specs.Prelude.{None}
 use Rattle.answer.specs.declared.Refusal.TheVariants.{Held}
 use Rattle.slot.specs.PlaceLaws.{holds_slots}
 use Rattle.versions.specs.Versions.{columns}
@@ -17,7 +17,7 @@ returns-then-holds c =
     let m = meaning a.h cs in
     checkpoint_turned_down a.t a.h cs (sym c.shaped.ensures.value ∙ c.if-not-shaped.false) _
     Held c.refused-then-holds.ensures
-    (say 9 (checkpoint_refusal a.t m) Absent
+    (say 9 (checkpoint_refusal a.t m) None
     (checkpoint_held m a.t c.if-t-h.false c.if-h-t.false _ (c.holds.ensures ∙ sym (holds_slots a.h.slots a.t)) c.if-holds.true))
 
 pub returns : goal.returns
@@ -26,6 +26,6 @@ returns c =
     let cs = columns a.keys.now a.times.now a.values.now a.marks.now in
     let m = meaning a.h cs in
     checkpoint_carried_out a.t a.h cs (sym c.shaped.ensures.value ∙ c.if-not-shaped.false) _ _
-    (say 0 (checkpoint_refusal a.t m) Absent
+    (say 0 (checkpoint_refusal a.t m) None
     (checkpoint_done m a.t c.if-t-h.false c.if-h-t.false _ (c.holds.ensures ∙ sym (holds_slots a.h.slots a.t)) c.if-holds.false))
     c.keep_from-used.ensures

@@ -3,8 +3,7 @@ use mathlib.Core.Path.{◌≡◌, refl, sym, ◌∙◌}
 use mathlib.Core.Bool.{true}
 use Prim.Native.Nat.{ℕ}
 use native.Mathlib.Omega.{arith}
-use Rattle.column.specs.declared.Found.{Found}
-use Rattle.column.specs.declared.Found.TheVariants.{At}
+use Rattle.std.specs.Prelude.{Option, Some}
 use Rattle.answer.specs.declared.Refusal.TheVariants.{UnknownTransaction, NotLater, Conflict, NoRoom}
 use Rattle.slot.specs.declared.Slots.{Slots}
 use Rattle.slot.specs.Slots.{slot_at, slot_of, closed_in}
@@ -26,26 +25,26 @@ use Rattle.map_commit.proofs.commit.Goals as goal
 use Rattle.map_commit.proofs.commit.Goals.{In-At}
 
 -- the rows that count are written, and the slot that was found is freed
-freed : {n t : ℕ} {h : MapHead} {cs cs' : Columns} {f : Found} → f ≡ slot_of h.slots n → {i : ℕ} → f ≡ At i → {r : ℕ}
+freed : {n t : ℕ} {h : MapHead} {cs cs' : Columns} {f : Option ℕ} → f ≡ slot_of h.slots n → {i : ℕ} → f ≡ Some i → {r : ℕ}
     → Stamped (newest_in h.last h.used cs) t h.used (firsts (slot_rows (slot_at h.slots i))) cs cs' r → {z : Slots} → z ≡ closed_in h.slots i
     → Put n t h cs true (record { low = h.low; last = t; next = h.next; used = r; slots = z }) cs'
 freed e g w q = record { headed = rw (sym e ∙ g, w.count, q); cells = rw (sym e ∙ g) w.cells }
 
 -- Where a slot was found: the columns that were lent, and what the shape test and the search say
-abbrev cells : In-At → Columns
+abbrev cells : In-Some → Columns
 cells fo = let a = fo.args in columns a.keys.now a.times.now a.values.now a.marks.now
 
-passes : (fo : In-At) → is_shaped fo.args.h (lengths (cells fo)) ≡ true
+passes : (fo : In-Some) → is_shaped fo.args.h (lengths (cells fo)) ≡ true
 passes fo = sym fo.shaped.ensures.value ∙ fo.if-not-shaped.false
 
-good : (fo : In-At) → Shaped fo.args.h (lengths (cells fo))
+good : (fo : In-Some) → Shaped fo.args.h (lengths (cells fo))
 good fo = fo.shaped.ensures.shaped fo.if-not-shaped.false
 
-place : (fo : In-At) → place_of fo.args.n (places_of fo.args.h.slots) ≡ taken_by (slot_at fo.args.h.slots fo.in-At.i)
-place fo = place_found fo.args.h.slots fo.args.n fo.in-At.ensures.value refl
+place : (fo : In-Some) → place_of fo.args.n (places_of fo.args.h.slots) ≡ taken_by (slot_at fo.args.h.slots fo.in-Some.i)
+place fo = place_found fo.args.h.slots fo.args.n fo.in-Some.ensures.value refl
 
-rowed : (fo : In-At) → Rowed (slot_at fo.args.h.slots fo.in-At.i)
-rowed fo = rowed_found fo.args.h.slots fo.args.n fo.in-At.ensures.value refl (good fo).formed
+rowed : (fo : In-Some) → Rowed (slot_at fo.args.h.slots fo.in-Some.i)
+rowed fo = rowed_found fo.args.h.slots fo.args.n fo.in-Some.ensures.value refl (good fo).formed
 
 pub returns-in_default : goal.returns-in_default
 returns-in_default c =
@@ -54,38 +53,38 @@ returns-in_default c =
     (commit_unknown (place_none a.h.slots a.n c.in_default.ensures.value refl))
 
 pub returns-then-t-h : goal.returns-then-t-h
-returns-then-t-h c = commit_turned_down (passes (goal.at.returns-then-t-h c).In-At) _ NotLater c.refused-then-t-h.ensures (commit_later (place (goal.at.returns-then-t-h c).In-At) c.if-t-h.true)
+returns-then-t-h c = commit_turned_down (passes (goal.at.returns-then-t-h c).In-Some) _ NotLater c.refused-then-t-h.ensures (commit_later (place (goal.at.returns-then-t-h c).In-Some) c.if-t-h.true)
 
 pub conflicts-requires : goal.conflicts-requires
 conflicts-requires c =
-    let l = lent c.args.h (cells (goal.at.conflicts-requires c).In-At) (good (goal.at.conflicts-requires c).In-At) in
-    (rowed (goal.at.conflicts-requires c).In-At, l.keys, l.times, l.marks)
+    let l = lent c.args.h (cells (goal.at.conflicts-requires c).In-Some) (good (goal.at.conflicts-requires c).In-Some) in
+    (rowed (goal.at.conflicts-requires c).In-Some, l.keys, l.times, l.marks)
 
 pub returns-then-conflicts : goal.returns-then-conflicts
 returns-then-conflicts c =
-    commit_turned_down (passes (goal.at.returns-then-conflicts c).In-At) _ Conflict c.refused-then-conflicts.ensures
-    (commit_conflict (place (goal.at.returns-then-conflicts c).In-At) c.if-t-h.false (c.conflicts.ensures (cells (goal.at.returns-then-conflicts c).In-At).values) c.if-conflicts.true)
+    commit_turned_down (passes (goal.at.returns-then-conflicts c).In-Some) _ Conflict c.refused-then-conflicts.ensures
+    (commit_conflict (place (goal.at.returns-then-conflicts c).In-Some) c.if-t-h.false (c.conflicts.ensures (cells (goal.at.returns-then-conflicts c).In-Some).values) c.if-conflicts.true)
 
 pub count_written-requires : goal.count_written-requires
-count_written-requires c = rowed (goal.at.count_written-requires c).In-At
+count_written-requires c = rowed (goal.at.count_written-requires c).In-Some
 
 pub overflow_add-h : goal.overflow_add-h
 overflow_add-h c =
-    let s = slot_at c.args.h.slots c.in-At.i in
-    omega (arith, c.count_written.ensures, length_firsts (slot_rows s), length_rows s.keys s.values s.marks s.count, (rowed (goal.at.overflow_add-h c).In-At).count, (good (goal.at.overflow_add-h c).In-At).limit)
+    let s = slot_at c.args.h.slots c.in-Some.i in
+    omega (arith, c.count_written.ensures, length_firsts (slot_rows s), length_rows s.keys s.values s.marks s.count, (rowed (goal.at.overflow_add-h c).In-Some).count, (good (goal.at.overflow_add-h c).In-Some).limit)
 
 pub returns-then-room-h : goal.returns-then-room-h
 returns-then-room-h c =
-    commit_turned_down (passes (goal.at.returns-then-room-h c).In-At) _ NoRoom c.refused-then-room-h.ensures
-    (commit_room (place (goal.at.returns-then-room-h c).In-At) c.if-t-h.false (c.conflicts.ensures (cells (goal.at.returns-then-room-h c).In-At).values) c.if-conflicts.false (length_versions c.args.h.used (cells (goal.at.returns-then-room-h c).In-At))
+    commit_turned_down (passes (goal.at.returns-then-room-h c).In-Some) _ NoRoom c.refused-then-room-h.ensures
+    (commit_room (place (goal.at.returns-then-room-h c).In-Some) c.if-t-h.false (c.conflicts.ensures (cells (goal.at.returns-then-room-h c).In-Some).values) c.if-conflicts.false (length_versions c.args.h.used (cells (goal.at.returns-then-room-h c).In-Some))
     c.count_written.ensures (rw c.room.ensures at c.if-room-h.true))
 
 pub stamp-used-requires : goal.stamp-used-requires
-stamp-used-requires c = (rowed (goal.at.stamp-used-requires c).In-At, (good (goal.at.stamp-used-requires c).In-At).limit, room_lent c.args.h (cells (goal.at.stamp-used-requires c).In-At) (good (goal.at.stamp-used-requires c).In-At) _ (rw (c.room.ensures, c.count_written.ensures) at c.if-room-h.false))
+stamp-used-requires c = (rowed (goal.at.stamp-used-requires c).In-Some, (good (goal.at.stamp-used-requires c).In-Some).limit, room_lent c.args.h (cells (goal.at.stamp-used-requires c).In-Some) (good (goal.at.stamp-used-requires c).In-Some) _ (rw (c.room.ensures, c.count_written.ensures) at c.if-room-h.false))
 
 pub returns : goal.returns
 returns c =
-    commit_carried_out (passes (goal.at.returns c).In-At)
-    (commit_done (place (goal.at.returns c).In-At) c.if-t-h.false (c.conflicts.ensures (cells (goal.at.returns c).In-At).values) c.if-conflicts.false (length_versions c.args.h.used (cells (goal.at.returns c).In-At))
+    commit_carried_out (passes (goal.at.returns c).In-Some)
+    (commit_done (place (goal.at.returns c).In-Some) c.if-t-h.false (c.conflicts.ensures (cells (goal.at.returns c).In-Some).values) c.if-conflicts.false (length_versions c.args.h.used (cells (goal.at.returns c).In-Some))
     c.count_written.ensures (rw c.room.ensures at c.if-room-h.false))
-    (freed c.in-At.ensures.value refl c.stamp-used.ensures c.closed.ensures)
+    (freed c.in-Some.ensures.value refl c.stamp-used.ensures c.closed.ensures)

@@ -5,7 +5,7 @@ use Prim.Native.Nat.{ℕ, ◌≤◌}
 use native.Mathlib.Omega.{arith}
 use lib.ListN.{length, take, drop}
 use borrow.Author.Tests.{le-leb}
-use Rattle.rules.specs.declared.Value.TheVariants.{Present}
+use Rattle.std.specs.Prelude.{Some}
 use Rattle.rules.specs.Calls.{with_room}
 use Rattle.rules.specs.Values.{Row}
 use Rattle.answer.specs.Reply.{accepted}
@@ -18,12 +18,12 @@ use Rattle.map_list.proofs.write.Goals as goal
 
 module _ (rows : List Row) (oks ovs : List ℕ) {a b a' b' : List ℕ} {n : ℕ} (w : Next rows a b a' b' n) where
   copied : n ≤ length oks → {oks' ovs' : List ℕ} → oks' ≡ take n a' ++ drop n oks → ovs' ≡ take n b' ++ drop n ovs
-      → ListedIn rows oks ovs (accepted (Present n)) oks' ovs'
+      → ListedIn rows oks ovs (accepted (Some n)) oks' ovs'
   copied l {oks'} {ovs'} k v =
       let f = next_copied rows a b a' b' n w oks ovs oks' ovs' k v in
       record {
         reply =
-            say_value (with_room 0 (length rows) (length oks)) (Present n) (Present (length rows)) (ap Present w.count)
+            say_value (with_room 0 (length rows) (length oks)) (Some n) (Some (length rows)) (ap Some w.count)
             (rw (← w.count, le-leb n (length oks) l));
         written = record { keys = f.keys_column; values = f.values_column };
       }

@@ -3,10 +3,9 @@ use mathlib.Core.Path.{◌≡◌, refl, sym, ◌∙◌}
 use mathlib.Core.List.{List}
 use Prim.Native.Nat.{ℕ}
 use Rattle.rules.specs.declared.Effect.{Effect}
-use Rattle.rules.specs.declared.Value.{Value}
+use Rattle.rules.specs.Value.{Value}
 use Rattle.rules.specs.Effects.{applied}
-use Rattle.column.specs.declared.Found.{Found}
-use Rattle.column.specs.declared.Found.TheVariants.{At, Nothing}
+use Rattle.std.specs.Prelude.{Option, Some, None}
 use Rattle.slot.specs.declared.Slot.{Slot}
 use Rattle.slot.specs.Slot.{key_row, effect_at}
 use Rattle.slot.specs.Formed.{Rowed}
@@ -17,21 +16,21 @@ use Rattle.versions.specs.Versions.{columns, versions_of, value_at}
 use Rattle.map_store.specs.Meaning.{current}
 use Rattle.map_store.proofs.current_value.Goals as goal
 
-module _ (s : Slot) (w : Rowed s) (k : ℕ) (vs : List Version) (f : Found) (e : f ≡ key_row s k) (v : Value) where
-  own : (i : ℕ) → f ≡ At i → (x : Effect) → x ≡ effect_at s i → v ≡ applied x (value_at k s.snapshot vs) → v ≡ current k s.snapshot (slot_rows s) vs
+module _ (s : Slot) (w : Rowed s) (k : ℕ) (vs : List Version) (f : Option ℕ) (e : f ≡ key_row s k) (v : Value) where
+  own : (i : ℕ) → f ≡ Some i → (x : Effect) → x ≡ effect_at s i → v ≡ applied x (value_at k s.snapshot vs) → v ≡ current k s.snapshot (slot_rows s) vs
   own i g x p d = rw (makes_row s w k, sym e ∙ g, ← p) d
 
-  seen : f ≡ Nothing → v ≡ value_at k s.snapshot vs → v ≡ current k s.snapshot (slot_rows s) vs
+  seen : f ≡ None → v ≡ value_at k s.snapshot vs → v ≡ current k s.snapshot (slot_rows s) vs
   seen g d = rw (makes_row s w k, sym e ∙ g) d
 
-pub returns-in-At : goal.returns-in-At
-returns-in-At c marks =
+pub returns-in-Some : goal.returns-in-Some
+returns-in-Some c marks =
     let a = c.args in
     let cs = columns a.keys.now a.times.now a.values.now marks in
-    own a.s c.requires.0 a.k (versions_of a.used cs) _ c.in-At.ensures.value _ _ refl _ c.effect-e.ensures (c.applied_at.ensures marks)
+    own a.s c.requires.0 a.k (versions_of a.used cs) _ c.in-Some.ensures.value _ _ refl _ c.effect-e.ensures (c.applied_at.ensures marks)
 
-pub returns-in-Nothing : goal.returns-in-Nothing
-returns-in-Nothing c marks =
+pub returns-in-None : goal.returns-in-None
+returns-in-None c marks =
     let a = c.args in
     let cs = columns a.keys.now a.times.now a.values.now marks in
-    seen a.s c.requires.0 a.k (versions_of a.used cs) _ c.in-Nothing.ensures.value _ refl (c.value_at.ensures marks)
+    seen a.s c.requires.0 a.k (versions_of a.used cs) _ c.in-None.ensures.value _ refl (c.value_at.ensures marks)

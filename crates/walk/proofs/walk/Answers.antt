@@ -5,7 +5,7 @@ use mathlib.Core.Bool.{Bool, true, false}
 use mathlib.Core.List.{List}
 use Prim.Native.Nat.{ℕ, ◌+◌, ◌*◌, ◌<◌}
 use Rattle.rules.specs.declared.Record.{Record}
-use Rattle.rules.specs.declared.Walked.TheVariants.{Whole, BadAt}
+use Rattle.std.specs.Prelude.{Some, None}
 use Rattle.rules.specs.Kinds.{record_size}
 use Rattle.rules.specs.Recovery.{judge, walk}
 use Rattle.record.specs.Bytes.{record_at, records_in}
@@ -17,16 +17,16 @@ use native.Mathlib.Omega.{arith}
 use Rattle.walk.proofs.walk.Goals as goal
 
 module _ (low i : ℕ) (b : List ℕ) (r : Record) (v : Bool) (e : r ≡ record_at b (i * record_size)) (d : v ≡ judge low (records_in i b) r)
-    (w : walk low (records_in i b) ≡ Whole) where
-  stops : (used : ℕ) → i < used → v ≡ false → BadAt i ≡ walk low (records_in used b)
+    (w : walk low (records_in i b) ≡ None) where
+  stops : (used : ℕ) → i < used → v ≡ false → Some i ≡ walk low (records_in used b)
   stops used l f =
-      let found : walk low (records_in (i + 1) b) ≡ BadAt i =
-      onward (λ rs. walk low rs ≡ BadAt i) b i r e (walk_bad low r (records_in i b) (sym d ∙ f) w ∙ ap BadAt (length_records i b))
+      let found : walk low (records_in (i + 1) b) ≡ Some i =
+      onward (λ rs. walk low rs ≡ Some i) b i r e (walk_bad low r (records_in i b) (sym d ∙ f) w ∙ ap Some (length_records i b))
       in
       sym (walk_stays low (i + 1) used i b (omega arith) found)
 
-  goes : v ≡ true → walk low (records_in (i + 1) b) ≡ Whole
-  goes t = onward (λ rs. walk low rs ≡ Whole) b i r e (walk_more low r (records_in i b) (sym d ∙ t) w)
+  goes : v ≡ true → walk low (records_in (i + 1) b) ≡ None
+  goes t = onward (λ rs. walk low rs ≡ None) b i r e (walk_more low r (records_in i b) (sym d ∙ t) w)
 
 pub returns-then-not-judge : goal.returns-then-not-judge
 returns-then-not-judge c =

@@ -2,14 +2,14 @@
 -- Assumes nothing.
 use mathlib.Core.Path.{◌≡◌}
 use Prim.Native.Nat.{◌-◌, ◌≤◌}
-use Rattle.rules.specs.declared.Walked.TheVariants.{Whole}
+use Rattle.std.specs.Prelude.{None}
 use Rattle.rules.specs.Recovery.{walk}
 use Rattle.record.specs.Bytes.{records_in}
 use Rattle.walk.specs.Walk.{Tracks}
 use Rattle.walk.proofs.walk.Given as goal
 
 abbrev pub invariant-loop-i : goal.invariant-loop-i
-invariant-loop-i l = (l.i ≤ l.used) × Tracks l.low (records_in l.i l.journal) l.s × (walk l.low (records_in l.i l.journal) ≡ Whole)
+invariant-loop-i l = (l.i ≤ l.used) × Tracks l.low (records_in l.i l.journal) l.s × (walk l.low (records_in l.i l.journal) ≡ None)
 
 abbrev pub decreases-loop-i : goal.decreases-loop-i
 decreases-loop-i l = l.used - l.i

@@ -1,7 +1,7 @@
 -- `map_store::read::decide` meets its contract: a law for each way out; what is read is what the transaction's place says. Assumes nothing.
 use mathlib.Core.Path.{◌≡◌, refl, sym, ap, ◌∙◌}
 use Prim.Native.Nat.{ℕ}
-use Rattle.rules.specs.declared.Value.{Value}
+use Rattle.rules.specs.Value.{Value}
 use Rattle.slot.specs.declared.Slot.{Slot}
 use Rattle.slot.specs.Places.{taken_by, slot_rows, place_of}
 use Rattle.versions.specs.Versions.{columns}
@@ -22,27 +22,27 @@ returns-then-k-eq0 c =
     let cs = columns a.keys.now a.times.now a.values.now a.marks.now in
     let m = meaning a.h cs in
     say 3 (read_refusal a.n a.k m) (read_in a.n a.k m)
-    (read_key m a.n a.k _ _ _ (place_found a.h.slots a.n c.in-At.ensures.value refl) c.if-k-eq0.true)
+    (read_key m a.n a.k _ _ _ (place_found a.h.slots a.n c.in-Some.ensures.value refl) c.if-k-eq0.true)
 
 pub current_value-requires : goal.current_value-requires
 current_value-requires c =
     let a = c.args in
     let cs = columns a.keys.now a.times.now a.values.now a.marks.now in
     let l = lent a.h cs c.requires in
-    (rw c.at-s.ensures (rowed_found a.h.slots a.n c.in-At.ensures.value refl c.requires.formed), l.keys, l.times, l.values)
+    (rw c.at-s.ensures (rowed_found a.h.slots a.n c.in-Some.ensures.value refl c.requires.formed), l.keys, l.times, l.values)
 
 pub returns-else-k-eq0 : goal.returns-else-k-eq0
 returns-else-k-eq0 c =
     let a = c.args in
     let cs = columns a.keys.now a.times.now a.values.now a.marks.now in
     let m = meaning a.h cs in
-    say_value (read_refusal a.n a.k m) _ (read_in a.n a.k m) (reads m a.n a.k c.at-s.result (place_found a.h.slots a.n c.in-At.ensures.value refl ∙ ap taken_by (sym c.at-s.ensures)) _ (c.current_value.ensures a.marks.now))
-    (read_done m a.n a.k _ _ _ (place_found a.h.slots a.n c.in-At.ensures.value refl) c.if-k-eq0.false)
+    say_value (read_refusal a.n a.k m) _ (read_in a.n a.k m) (reads m a.n a.k c.at-s.result (place_found a.h.slots a.n c.in-Some.ensures.value refl ∙ ap taken_by (sym c.at-s.ensures)) _ (c.current_value.ensures a.marks.now))
+    (read_done m a.n a.k _ _ _ (place_found a.h.slots a.n c.in-Some.ensures.value refl) c.if-k-eq0.false)
 
-pub returns-in-Nothing : goal.returns-in-Nothing
-returns-in-Nothing c =
+pub returns-in-None : goal.returns-in-None
+returns-in-None c =
     let a = c.args in
     let cs = columns a.keys.now a.times.now a.values.now a.marks.now in
     let m = meaning a.h cs in
     say 2 (read_refusal a.n a.k m) (read_in a.n a.k m)
-    (read_unknown m a.n a.k (place_none a.h.slots a.n c.in-Nothing.ensures.value refl))
+    (read_unknown m a.n a.k (place_none a.h.slots a.n c.in-None.ensures.value refl))

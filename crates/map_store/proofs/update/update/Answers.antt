@@ -3,8 +3,7 @@ use mathlib.Core.Path.{◌≡◌, refl, sym, ◌∙◌}
 use Prim.Native.Nat.{ℕ}
 use lib.ListN.{set}
 use Rattle.rules.specs.declared.Effect.{Effect}
-use Rattle.column.specs.declared.Found.{Found}
-use Rattle.column.specs.declared.Found.TheVariants.{At}
+use Rattle.std.specs.Prelude.{Option, Some}
 use Rattle.answer.specs.declared.Refusal.TheVariants.{UnknownTransaction, BadKey, KeysFull}
 use Rattle.slot.specs.declared.Slot.{Slot}
 use Rattle.slot.specs.Slot.{noted}
@@ -16,7 +15,7 @@ use Rattle.map_store.specs.Tests.{update_unknown, update_key, update_full, updat
 use Rattle.map_store.proofs.update.update.Goals as goal
 
 -- the slot that was found has the update noted
-changed : (h : MapHead) (n k : ℕ) (x : Effect) {f : Found} → f ≡ slot_of h.slots n → {i : ℕ} → f ≡ At i → {s : Slot} → s ≡ noted (slot_at h.slots i) k x
+changed : (h : MapHead) (n k : ℕ) (x : Effect) {f : Option ℕ} → f ≡ slot_of h.slots n → {i : ℕ} → f ≡ Some i → {s : Slot} → s ≡ noted (slot_at h.slots i) k x
     → with_slots h (record { occupied = h.slots.occupied; slots = set h.slots.slots i s }) ≡ updated_head k x (slot_of h.slots n) h
 changed h n k x e g es = rw (sym e ∙ g, es)
 
@@ -30,22 +29,22 @@ pub returns-then-k-eq0 : goal.returns-then-k-eq0
 returns-then-k-eq0 c =
     let a = c.args in
     turned_down (sym c.shaped.ensures.value ∙ c.if-not-shaped.false) _ BadKey c.refused-then-k-eq0.ensures
-    (update_key (place_found a.h.slots a.n c.in-At.ensures.value refl) c.if-k-eq0.true)
+    (update_key (place_found a.h.slots a.n c.in-Some.ensures.value refl) c.if-k-eq0.true)
 
 pub is_full-requires : goal.is_full-requires
 is_full-requires c =
     let a = c.args in
-    rowed_found a.h.slots a.n c.in-At.ensures.value refl (c.shaped.ensures.shaped c.if-not-shaped.false).formed
+    rowed_found a.h.slots a.n c.in-Some.ensures.value refl (c.shaped.ensures.shaped c.if-not-shaped.false).formed
 
 pub returns-then-is_full : goal.returns-then-is_full
 returns-then-is_full c =
     let a = c.args in
     turned_down (sym c.shaped.ensures.value ∙ c.if-not-shaped.false) _ KeysFull c.refused-then-is_full.ensures
-    (update_full (place_found a.h.slots a.n c.in-At.ensures.value refl) c.if-k-eq0.false c.is_full.ensures c.if-is_full.true)
+    (update_full (place_found a.h.slots a.n c.in-Some.ensures.value refl) c.if-k-eq0.false c.is_full.ensures c.if-is_full.true)
 
 pub returns : goal.returns
 returns c =
     let a = c.args in
     carried_out (sym c.shaped.ensures.value ∙ c.if-not-shaped.false) _ _ c.accepted.ensures
-    (update_fits (place_found a.h.slots a.n c.in-At.ensures.value refl) c.if-k-eq0.false c.is_full.ensures c.if-is_full.false)
-    (changed a.h a.n a.k a.e c.in-At.ensures.value refl c.note.ensures)
+    (update_fits (place_found a.h.slots a.n c.in-Some.ensures.value refl) c.if-k-eq0.false c.is_full.ensures c.if-is_full.false)
+    (changed a.h a.n a.k a.e c.in-Some.ensures.value refl c.note.ensures)

@@ -4,7 +4,7 @@ use mathlib.Core.Path.{◌≡◌}
 use mathlib.Core.List.{List}
 use Prim.Native.Nat.{ℕ, ◌-◌, ◌≤◌}
 use lib.ListN.{length}
-use Rattle.rules.specs.declared.Value.{Value}
+use Rattle.rules.specs.Value.{Value}
 use Rattle.rules.specs.Values.{value}
 use Rattle.record.specs.Bytes.{records_in}
 use Rattle.values.specs.Pass.{Does}

@@ -5,13 +5,12 @@ use native.Mathlib.Numerals.{add-one}
 use native.Mathlib.Omega.{arith}
 use borrow.Author.Tests.{eq-eqb, ne_eqb, le-leb, lt-leb, lt-ltb, le-ltb}
 use lib.ListN.{get_or}
-use Rattle.column.specs.declared.Found.{Found}
-use Rattle.column.specs.declared.Found.TheVariants.{At, Nothing}
+use Rattle.std.specs.Prelude.{Option, Some, None}
 use Rattle.versions.specs.Versions.{Columns, no_columns, keyed, versions_of, newest, row_of}
 use Rattle.versions.specs.Laws.{length_versions, found_version, found_newest, none_found}
 use Rattle.versions.proofs.search.newer_row.Goals as goal
 
-module _ (cs : Columns) (i k t : ℕ) (best : Found) (pre : best ≡ row_of (newest k t (versions_of i cs))) where
+module _ (cs : Columns) (i k t : ℕ) (best : Option ℕ) (pre : best ≡ row_of (newest k t (versions_of i cs))) where
   other : (get_or cs.keys i 0 ≡ k → ⊥) → best ≡ row_of (newest k t (versions_of (i + 1) cs))
   other h = rw (add-one, ne_eqb (get_or cs.keys i 0) k h) pre
 
@@ -20,7 +19,7 @@ module _ (cs : Columns) (i k t : ℕ) (best : Found) (pre : best ≡ row_of (new
     late l = rw (add-one, eq-eqb (get_or cs.keys i 0) k a, lt-leb (get_or cs.times i 0) t l) pre
 
     module _ (b : get_or cs.times i 0 ≤ t) where
-      first : best ≡ Nothing → At i ≡ row_of (newest k t (versions_of (i + 1) cs))
+      first : best ≡ None → Some i ≡ row_of (newest k t (versions_of (i + 1) cs))
       first e =
           rw (
             add-one,
@@ -30,8 +29,8 @@ module _ (cs : Columns) (i k t : ℕ) (best : Found) (pre : best ≡ row_of (new
             length_versions i cs,
           )
 
-      module _ (j : ℕ) (e : best ≡ At j) where
-        newer : get_or cs.times j 0 < get_or cs.times i 0 → At i ≡ row_of (newest k t (versions_of (i + 1) cs))
+      module _ (j : ℕ) (e : best ≡ Some j) where
+        newer : get_or cs.times j 0 < get_or cs.times i 0 → Some i ≡ row_of (newest k t (versions_of (i + 1) cs))
         newer l =
             rw (
               add-one,
@@ -42,7 +41,7 @@ module _ (cs : Columns) (i k t : ℕ) (best : Found) (pre : best ≡ row_of (new
               length_versions i cs,
             )
 
-        not_newer : get_or cs.times i 0 ≤ get_or cs.times j 0 → At j ≡ row_of (newest k t (versions_of (i + 1) cs))
+        not_newer : get_or cs.times i 0 ≤ get_or cs.times j 0 → Some j ≡ row_of (newest k t (versions_of (i + 1) cs))
         not_newer l =
             rw (
               add-one,
@@ -53,35 +52,35 @@ module _ (cs : Columns) (i k t : ℕ) (best : Found) (pre : best ≡ row_of (new
             )
 
   -- the row found is one before row i
-  within : (j : ℕ) → best ≡ At j → j < i
+  within : (j : ℕ) → best ≡ Some j → j < i
   within j e = (found_newest k t cs i (sym pre ∙ e)).row
 
 pub offset_bounds-times-j : goal.offset_bounds-times-j
 offset_bounds-times-j c =
     let a = c.args in
     let cs = keyed a.keys.now a.times.now no_columns in
-    omega (arith, within cs a.i a.k a.t a.best (c.requires.2 cs) _ c.in-At.is)
+    omega (arith, within cs a.i a.k a.t a.best (c.requires.2 cs) _ c.in-Some.is)
 
 pub bounds-times-j : goal.bounds-times-j
 bounds-times-j c =
     let a = c.args in
     let cs = keyed a.keys.now a.times.now no_columns in
-    omega (arith, within cs a.i a.k a.t a.best (c.requires.2 cs) _ c.in-At.is)
+    omega (arith, within cs a.i a.k a.t a.best (c.requires.2 cs) _ c.in-Some.is)
 
 pub returns-then-times-j : goal.returns-then-times-j
 returns-then-times-j c others =
     let a = c.args in
     let cs = keyed a.keys.now a.times.now others in
-    newer cs a.i a.k a.t a.best (c.requires.2 cs) c.if-keys-i.false c.if-times-i.false _ c.in-At.is c.if-times-j.true
+    newer cs a.i a.k a.t a.best (c.requires.2 cs) c.if-keys-i.false c.if-times-i.false _ c.in-Some.is c.if-times-j.true
 
 pub returns-else-times-j : goal.returns-else-times-j
 returns-else-times-j c others =
     let a = c.args in
     let cs = keyed a.keys.now a.times.now others in
-    not_newer cs a.i a.k a.t a.best (c.requires.2 cs) c.if-keys-i.false c.if-times-i.false _ c.in-At.is c.if-times-j.false
+    not_newer cs a.i a.k a.t a.best (c.requires.2 cs) c.if-keys-i.false c.if-times-i.false _ c.in-Some.is c.if-times-j.false
 
-pub returns-in-Nothing : goal.returns-in-Nothing
-returns-in-Nothing c others =
+pub returns-in-None : goal.returns-in-None
+returns-in-None c others =
     let a = c.args in
     let cs = keyed a.keys.now a.times.now others in
-    first cs a.i a.k a.t a.best (c.requires.2 cs) c.if-keys-i.false c.if-times-i.false c.in-Nothing.is
+    first cs a.i a.k a.t a.best (c.requires.2 cs) c.if-keys-i.false c.if-times-i.false c.in-None.is

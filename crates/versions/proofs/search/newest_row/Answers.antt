@@ -4,14 +4,14 @@ use mathlib.Core.Path.{◌≡◌, sym, ap, ◌∙◌}
 use mathlib.Core.List.{List}
 use Prim.Native.Nat.{ℕ}
 use native.Mathlib.Omega.{arith}
-use Rattle.column.specs.declared.Found.{Found}
+use Rattle.std.specs.Prelude.{Option}
 use Rattle.versions.specs.Versions.{Columns, keyed, versions_of, newest, row_of}
 use Rattle.versions.specs.Search.{Passed}
 use Rattle.versions.specs.SearchLaws.{newest_passed}
 use Rattle.versions.proofs.search.newest_row.Goals as goal
 
 -- rows that are passed leave the best row
-stays : (k t : ℕ) (ks ts : List ℕ) (i n r : ℕ) (best : Found) → Passed k ks i n r
+stays : (k t : ℕ) (ks ts : List ℕ) (i n r : ℕ) (best : Option ℕ) → Passed k ks i n r
     → ((others : Columns) → best ≡ row_of (newest k t (versions_of i (keyed ks ts others))))
     → (others : Columns) → best ≡ row_of (newest k t (versions_of r (keyed ks ts others)))
 stays k t ks ts i n r best w h others = h others ∙ ap row_of (sym (newest_passed k (keyed ks ts others) w t))

@@ -5,8 +5,7 @@ use lib.ListN.{take, get_or, length-take}
 use lib.Seq.{get_or-take}
 use Rattle.rules.specs.Bools.{not_both}
 use Rattle.rules.specs.Lists.{among}
-use Rattle.column.specs.declared.Found.{Found}
-use Rattle.column.specs.declared.Found.TheVariants.{At, Nothing}
+use Rattle.std.specs.Prelude.{Option, Some, None}
 use Rattle.column.specs.Column.{first_row}
 use Rattle.column.specs.Laws.{First, first_at}
 use Rattle.walk.specs.declared.State.{State}
@@ -16,8 +15,8 @@ use Rattle.walk.specs.Walk.{SnapshotOf}
 use native.Mathlib.Omega.{arith}
 use Rattle.walk.proofs.State.snapshot.Goals as goal
 
-module _ (s : State) (n : ℕ) (f : Found) (e : f ≡ first_row n (take s.count s.numbers)) where
-  module _ (j : ℕ) (d : f ≡ At j) where
+module _ (s : State) (n : ℕ) (f : Option ℕ) (e : f ≡ first_row n (take s.count s.numbers)) where
+  module _ (j : ℕ) (d : f ≡ Some j) where
     first : First n (take s.count s.numbers) j
     first = first_at n (take s.count s.numbers) (sym e ∙ d)
 
@@ -27,26 +26,26 @@ module _ (s : State) (n : ℕ) (f : Found) (e : f ≡ first_row n (take s.count 
     there : SnapshotOf s n (get_or s.snapshots j 0)
     there snap h a = h j used ∙ ap snap (sym (get_or-take s.count s.numbers j 0 used) ∙ first.key)
 
-  nowhere : f ≡ Nothing → SnapshotOf s n 0
+  nowhere : f ≡ None → SnapshotOf s n 0
   nowhere d snap h a =
       not_both (among n (take s.count s.numbers)) a (sym (found_among 0 n (take s.count s.numbers)) ∙ ap is_found (sym e ∙ d))
 
 pub offset_bounds-snapshots-j : goal.offset_bounds-snapshots-j
 offset_bounds-snapshots-j c =
     let a = c.args in
-    omega (arith, used a.self a.n _ c.find.ensures _ c.in-At.is)
+    omega (arith, used a.self a.n _ c.find.ensures _ c.in-Some.is)
 
 pub bounds-snapshots-j : goal.bounds-snapshots-j
 bounds-snapshots-j c =
     let a = c.args in
-    omega (arith, used a.self a.n _ c.find.ensures _ c.in-At.is)
+    omega (arith, used a.self a.n _ c.find.ensures _ c.in-Some.is)
 
-pub returns-in-At : goal.returns-in-At
-returns-in-At c =
+pub returns-in-Some : goal.returns-in-Some
+returns-in-Some c =
     let a = c.args in
-    there a.self a.n _ c.find.ensures _ c.in-At.is
+    there a.self a.n _ c.find.ensures _ c.in-Some.is
 
-pub returns-in-Nothing : goal.returns-in-Nothing
-returns-in-Nothing c =
+pub returns-in-None : goal.returns-in-None
+returns-in-None c =
     let a = c.args in
-    nowhere a.self a.n _ c.find.ensures c.in-Nothing.is
+    nowhere a.self a.n _ c.find.ensures c.in-None.is
