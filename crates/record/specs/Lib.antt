@@ -1,5 +1,6 @@
 -- What a reader must believe.
 pub mod Bytes
+pub mod Records
 -- Laws of it, and that no second answer satisfies a contract.
 pub mod Numbers
 pub mod Laws

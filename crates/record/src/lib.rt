@@ -1,7 +1,7 @@
 // The journal record of section 4: its 24 bytes read as numbers, and a new record written straight into the unused end of the journal.
 #![tactic(auto)]
 
-ghost use Rattle.std.specs.Prelude.{◌≡◌, ◌++◌, ◌+◌, ◌*◌, ◌≤◌, length, drop};
+ghost use Rattle.std.specs.Prelude.{◌≡◌, ◌++◌, ◌+◌, ◌*◌, ◌≤◌, ◌<◌, length, drop};
 ghost use Rattle.rules.specs.Kinds.{record_size};
 ghost use Rattle.record.specs.Bytes.{width_of, Field, record_at, bytes_of, written, appended};
 
@@ -12,6 +12,42 @@ use rules::Record;
 pub enum Width {
     Four,
     Eight,
+}
+
+// The first records of a journal's bytes, all of which are there.
+#[derive(Clone, Copy)]
+pub struct Records<'a> {
+    pub bytes: &'a [u8],
+    pub used: usize,
+    ghost there: { used * record_size ≤ length bytes.now },
+}
+
+impl<'a> Records<'a> {
+    pub fn new(bytes: &'a [u8], used: usize) -> Self
+        requires { used * record_size ≤ length bytes.now }
+        ensures { (result.bytes.now ≡ bytes.now) × (result.used ≡ used) }
+    {
+        Records { bytes, used }
+    }
+
+    // The record at a place, counted from 0.
+    pub fn at(self, place: usize) -> Record
+        requires { place < self.used }
+        ensures { result ≡ record_at self.entry.bytes.now (place * record_size) }
+    {
+        read(self.bytes, place)
+    }
+
+    // As many of them as a count says, the oldest ones.
+    pub fn first(self, count: usize) -> Self
+        requires { count ≤ self.used }
+        ensures { (result.bytes.now ≡ self.entry.bytes.now) × (result.used ≡ count) }
+    {
+        Records {
+            bytes: self.bytes,
+            used: count,
+        }
+    }
 }
 
 // How many numbers a byte tells apart.
