@@ -62,6 +62,6 @@ pub fn begin(h: Head, keys: &[u32], values: &[u32], journal: &mut [u8], t: u64) 
         };
     }
     let answer = decide(h, keys, values, journal, t);
-    let head = crate::put(h, journal, answer.is_ok(), begun(answer.number(), t));
+    let head = crate::put(h, journal, answer.is_ok(), begun(answer.unwrap_or(0), t));
     Outcome { head, answer }
 }

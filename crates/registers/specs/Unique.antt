@@ -19,7 +19,7 @@ use Rattle.registers.specs.declared.JournalResult.{JournalResult}
 use Rattle.registers.specs.declared.MapResult.{MapResult}
 use Rattle.registers.specs.declared.about.Limits.{Limits}
 use Rattle.registers.specs.declared.about.Numbers.{Numbers}
-use Rattle.registers.specs.Answer.{Answers, JournalReturns, MapReturns}
+use Rattle.registers.specs.Answer.{Answers, Returns}
 use Rattle.sample.specs.Sample.{journal_sample, map_sample}
 use Rattle.registers.specs.About.{limits, numbers}
 
@@ -28,15 +28,13 @@ same : {P Q : Reply → Type 0} {a b : Answer} (p : Answers P a) (q : Answers Q 
 same p q e = p.shows ∙ ap answer_of e ∙ sym q.shows
 
 -- what is returned is its head and its answer: those of one head and one reply are one
-journal_same : {P Q : Reply → Head → Type 0} {a b : JournalResult} (p : JournalReturns P a) (q : JournalReturns Q b) → p.head ≡ q.head
+journal_same : {P Q : Reply → Head → Type 0} {a b : JournalResult} (p : Returns P a.head a.answer) (q : Returns Q b.head b.answer) → a.head ≡ b.head
     → p.reply ≡ q.reply → a ≡ b
-journal_same p q e f =
-    ap₂ (λ (h : Head) (x : Answer). record { head = h; answer = x }) (p.heads ∙ e ∙ sym q.heads) (p.shows ∙ ap answer_of f ∙ sym q.shows)
+journal_same p q e f = ap₂ (λ (h : Head) (x : Answer). record { head = h; answer = x }) e (p.shows ∙ ap answer_of f ∙ sym q.shows)
 
-map_same : {P Q : Reply → MapHead → Type 0} {a b : MapResult} (p : MapReturns P a) (q : MapReturns Q b) → p.head ≡ q.head
+map_same : {P Q : Reply → MapHead → Type 0} {a b : MapResult} (p : Returns P a.head a.answer) (q : Returns Q b.head b.answer) → a.head ≡ b.head
     → p.reply ≡ q.reply → a ≡ b
-map_same p q e f =
-    ap₂ (λ (h : MapHead) (x : Answer). record { head = h; answer = x }) (p.heads ∙ e ∙ sym q.heads) (p.shows ∙ ap answer_of f ∙ sym q.shows)
+map_same p q e f = ap₂ (λ (h : MapHead) (x : Answer). record { head = h; answer = x }) e (p.shows ∙ ap answer_of f ∙ sym q.shows)
 
 pub journal_empty_unique : (a b : Head) → a ≡ journal_shape.empty_head → b ≡ journal_shape.empty_head → a ≡ b
 journal_empty_unique a b p q = p ∙ sym q
@@ -44,7 +42,7 @@ journal_empty_unique a b p q = p ∙ sym q
 module _ (h : Head) (keys values j : List ℕ) where
   -- begin, assign, add, abort and commit: what is returned, and the journal at exit
   abbrev Writes : Call → JournalResult → List ℕ → Type 0
-  Writes c a x = JournalReturns (λ r head. Wrote c h keys values j r head x) a
+  Writes c a x = Returns (λ r head. Wrote c h keys values j r head x) a.head a.answer
 
   wrote_unique : (c : Call) (a b : JournalResult) (x y : List ℕ) → Writes c a x → Writes c b y → (a ≡ b) × (x ≡ y)
   wrote_unique c a b x y p q = (
@@ -87,8 +85,8 @@ module _ (h : Head) (keys values j : List ℕ) where
   )
 
   pub journal_checkpoint_unique : (t : ℕ) (k v x k' v' x' : List ℕ) (a b : JournalResult)
-      → JournalReturns (λ r head. journal_checkpoint.Checkpointed t h keys values j r head k v x) a
-      → JournalReturns (λ r head. journal_checkpoint.Checkpointed t h keys values j r head k' v' x') b
+      → Returns (λ r head. journal_checkpoint.Checkpointed t h keys values j r head k v x) a.head a.answer
+      → Returns (λ r head. journal_checkpoint.Checkpointed t h keys values j r head k' v' x') b.head b.answer
       → (a ≡ b) × (k ≡ k') × (v ≡ v') × (x ≡ x')
   journal_checkpoint_unique t k v x k' v' x' a b p q = (
     journal_same p q (p.meets.headed ∙ sym q.meets.headed) (p.meets.reply ∙ sym q.meets.reply),
@@ -98,8 +96,8 @@ module _ (h : Head) (keys values j : List ℕ) where
   )
 
   pub journal_recover_unique : (survived : ℕ) (x y : List ℕ) (a b : JournalResult)
-      → JournalReturns (λ r head. Recovered h keys values j survived r head x) a
-      → JournalReturns (λ r head. Recovered h keys values j survived r head y) b → (a ≡ b) × (x ≡ y)
+      → Returns (λ r head. Recovered h keys values j survived r head x) a.head a.answer
+      → Returns (λ r head. Recovered h keys values j survived r head y) b.head b.answer → (a ≡ b) × (x ≡ y)
   journal_recover_unique survived x y a b p q = (
     journal_same p q (p.meets.headed ∙ sym q.meets.headed) (p.meets.reply ∙ sym q.meets.reply),
     p.meets.cells ∙ sym q.meets.cells,
@@ -111,7 +109,7 @@ map_empty_unique a b p q = p ∙ sym q
 module _ (h : MapHead) (cs : Columns) where
   -- begin, assign, add and abort: what is returned; the columns are lent to be read
   abbrev Gives : Call → MapResult → Type 0
-  Gives c a = MapReturns (λ r head. Answered c h cs r head) a
+  Gives c a = Returns (λ r head. Answered c h cs r head) a.head a.answer
 
   answered_unique : (c : Call) (a b : MapResult) → Gives c a → Gives c b → a ≡ b
   answered_unique c a b p q = map_same p q (p.meets.headed ∙ sym q.meets.headed) (p.meets.reply ∙ sym q.meets.reply)
@@ -129,7 +127,7 @@ module _ (h : MapHead) (cs : Columns) where
   map_abort_unique n = answered_unique (Abort n)
 
   pub map_commit_unique : (n t : ℕ) (x y : Columns) (a b : MapResult)
-      → MapReturns (λ r head. Committed n t h cs r head x) a → MapReturns (λ r head. Committed n t h cs r head y) b
+      → Returns (λ r head. Committed n t h cs r head x) a.head a.answer → Returns (λ r head. Committed n t h cs r head y) b.head b.answer
       → (a ≡ b) × (x ≡ y)
   map_commit_unique n t x y a b p q = (
     map_same p q (p.meets.answered.headed ∙ sym q.meets.answered.headed) (p.meets.answered.reply ∙ sym q.meets.answered.reply),
@@ -152,8 +150,8 @@ module _ (h : MapHead) (cs : Columns) where
   )
 
   pub map_checkpoint_unique : (t : ℕ) (x y : Columns) (a b : MapResult)
-      → MapReturns (λ r head. map_contracts.Checkpointed t h cs r head x) a
-      → MapReturns (λ r head. map_contracts.Checkpointed t h cs r head y) b
+      → Returns (λ r head. map_contracts.Checkpointed t h cs r head x) a.head a.answer
+      → Returns (λ r head. map_contracts.Checkpointed t h cs r head y) b.head b.answer
       → (a ≡ b) × (x ≡ y)
   map_checkpoint_unique t x y a b p q = (
     map_same p q (p.meets.headed ∙ sym q.meets.headed) (p.meets.reply ∙ sym q.meets.reply),

@@ -3,7 +3,7 @@ ghost use Rattle.std.specs.Prelude.{◌≡◌};
 ghost use Rattle.rules.specs.Calls.{Begin, Update, Abort, Commit};
 ghost use Rattle.journal_store.specs.Shape.{empty_head};
 ghost use Rattle.journal_store.specs.CallContracts.{Wrote, read_decided, lookup_decided, shaped_reply, ListedBy, Checkpointed, Recovered};
-ghost use Rattle.registers.specs.Answer.{Answers, JournalReturns};
+ghost use Rattle.registers.specs.Answer.{Answers, Returns};
 
 use crate::JournalResult;
 use answer::shown::Answer;
@@ -25,7 +25,7 @@ pub fn registers_journal_begin(
     journal: &mut [u8],
     time: u64,
 ) -> JournalResult
-    ensures { JournalReturns (λ a head. Wrote (Begin time) h keys.now values.now journal.old a head journal.new) result }
+    ensures { Returns (λ a head. Wrote (Begin time) h keys.now values.now journal.old a head journal.new) result.head result.answer }
 {
     journal_store::begin::begin(h, keys, values, journal, time).into()
 }
@@ -40,7 +40,7 @@ pub fn registers_journal_assign(
     key: u32,
     value: u32,
 ) -> JournalResult
-    ensures { JournalReturns (λ a head. Wrote (Update transaction key (Effect.Assign value)) h keys.now values.now journal.old a head journal.new) result }
+    ensures { Returns (λ a head. Wrote (Update transaction key (Effect.Assign value)) h keys.now values.now journal.old a head journal.new) result.head result.answer }
 {
     let e = Effect::Assign(value);
     journal_store::update::update(h, keys, values, journal, transaction, key, e).into()
@@ -56,7 +56,7 @@ pub fn registers_journal_add(
     key: u32,
     amount: u32,
 ) -> JournalResult
-    ensures { JournalReturns (λ a head. Wrote (Update transaction key (Effect.Add amount)) h keys.now values.now journal.old a head journal.new) result }
+    ensures { Returns (λ a head. Wrote (Update transaction key (Effect.Add amount)) h keys.now values.now journal.old a head journal.new) result.head result.answer }
 {
     let e = Effect::Add(amount);
     journal_store::update::update(h, keys, values, journal, transaction, key, e).into()
@@ -70,7 +70,7 @@ pub fn registers_journal_abort(
     journal: &mut [u8],
     transaction: u32,
 ) -> JournalResult
-    ensures { JournalReturns (λ a head. Wrote (Abort transaction) h keys.now values.now journal.old a head journal.new) result }
+    ensures { Returns (λ a head. Wrote (Abort transaction) h keys.now values.now journal.old a head journal.new) result.head result.answer }
 {
     journal_store::abort::abort(h, keys, values, journal, transaction).into()
 }
@@ -84,7 +84,7 @@ pub fn registers_journal_commit(
     transaction: u32,
     time: u64,
 ) -> JournalResult
-    ensures { JournalReturns (λ a head. Wrote (Commit transaction time) h keys.now values.now journal.old a head journal.new) result }
+    ensures { Returns (λ a head. Wrote (Commit transaction time) h keys.now values.now journal.old a head journal.new) result.head result.answer }
 {
     journal_store::commit::commit(h, keys, values, journal, transaction, time).into()
 }
@@ -140,7 +140,7 @@ pub fn registers_journal_checkpoint(
     journal: &mut [u8],
     time: u64,
 ) -> JournalResult
-    ensures { JournalReturns (λ a head. Checkpointed time h keys.old values.old journal.old a head keys.new values.new journal.new) result }
+    ensures { Returns (λ a head. Checkpointed time h keys.old values.old journal.old a head keys.new values.new journal.new) result.head result.answer }
 {
     journal_checkpoint::checkpoint(h, keys, values, journal, time).into()
 }
@@ -153,7 +153,7 @@ pub fn registers_journal_recover(
     journal: &mut [u8],
     survived: usize,
 ) -> JournalResult
-    ensures { JournalReturns (λ a head. Recovered h keys.now values.now journal.old survived a head journal.new) result }
+    ensures { Returns (λ a head. Recovered h keys.now values.now journal.old survived a head journal.new) result.head result.answer }
 {
     journal_recovery::recover(h, keys, values, journal, survived).into()
 }

@@ -16,26 +16,41 @@ pub mod about;
 pub mod journal_calls;
 pub mod map_calls;
 
-// What a call that changes a store returns: the head to use from then on, and the answer.
+// What a call that changes the journal store returns: the head to use from then on, and the answer. One for each store, since the C interface has
+// no generic struct.
 #[repr(C)]
 #[derive(Clone, Copy)]
-pub struct Returned<H> {
-    pub head: H,
+pub struct JournalResult {
+    pub head: Head,
     pub answer: Answer,
 }
 
-// Of the journal store.
-pub type JournalResult = Returned<Head>;
-
-// Of the map store.
-pub type MapResult = Returned<MapHead>;
-
-impl<H, T: Given> From<Outcome<H, T>> for Returned<H> {
+impl<T: Given> From<Outcome<Head, T>> for JournalResult {
     ghost from_gives = { λ o r. (r.head ≡ o.head) × (r.answer ≡ answer_of (of_result T.given o.answer)) };
 
-    fn from(outcome: Outcome<H, T>) -> Self {
+    fn from(outcome: Outcome<Head, T>) -> Self {
         let Outcome { head, answer } = outcome;
-        Returned {
+        JournalResult {
+            head,
+            answer: answer.into(),
+        }
+    }
+}
+
+// What a call that changes the map store returns.
+#[repr(C)]
+#[derive(Clone, Copy)]
+pub struct MapResult {
+    pub head: MapHead,
+    pub answer: Answer,
+}
+
+impl<T: Given> From<Outcome<MapHead, T>> for MapResult {
+    ghost from_gives = { λ o r. (r.head ≡ o.head) × (r.answer ≡ answer_of (of_result T.given o.answer)) };
+
+    fn from(outcome: Outcome<MapHead, T>) -> Self {
+        let Outcome { head, answer } = outcome;
+        MapResult {
             head,
             answer: answer.into(),
         }

@@ -4,7 +4,7 @@ ghost use Rattle.rules.specs.Calls.{Begin, Update, Abort};
 ghost use Rattle.versions.specs.Versions.{columns};
 ghost use Rattle.map_store.specs.Shape.{empty_head};
 ghost use Rattle.map_store.specs.CallContracts.{Answered, Committed, read_reply, lookup_reply, ListedAt, Checkpointed};
-ghost use Rattle.registers.specs.Answer.{Answers, MapReturns};
+ghost use Rattle.registers.specs.Answer.{Answers, Returns};
 
 use crate::MapResult;
 use answer::shown::Answer;
@@ -27,7 +27,7 @@ pub fn registers_map_begin(
     marks: &[u8],
     time: u64,
 ) -> MapResult
-    ensures { MapReturns (λ a head. Answered (Begin time) h (columns keys.now times.now values.now marks.now) a head) result }
+    ensures { Returns (λ a head. Answered (Begin time) h (columns keys.now times.now values.now marks.now) a head) result.head result.answer }
 {
     map_store::begin::begin(h, keys, times, values, marks, time).into()
 }
@@ -43,7 +43,7 @@ pub fn registers_map_assign(
     key: u32,
     value: u32,
 ) -> MapResult
-    ensures { MapReturns (λ a head. Answered (Update transaction key (Effect.Assign value)) h (columns keys.now times.now values.now marks.now) a head) result }
+    ensures { Returns (λ a head. Answered (Update transaction key (Effect.Assign value)) h (columns keys.now times.now values.now marks.now) a head) result.head result.answer }
 {
     let e = Effect::Assign(value);
     map_store::update::update(h, keys, times, values, marks, transaction, key, e).into()
@@ -60,7 +60,7 @@ pub fn registers_map_add(
     key: u32,
     amount: u32,
 ) -> MapResult
-    ensures { MapReturns (λ a head. Answered (Update transaction key (Effect.Add amount)) h (columns keys.now times.now values.now marks.now) a head) result }
+    ensures { Returns (λ a head. Answered (Update transaction key (Effect.Add amount)) h (columns keys.now times.now values.now marks.now) a head) result.head result.answer }
 {
     let e = Effect::Add(amount);
     map_store::update::update(h, keys, times, values, marks, transaction, key, e).into()
@@ -75,7 +75,7 @@ pub fn registers_map_abort(
     marks: &[u8],
     transaction: u32,
 ) -> MapResult
-    ensures { MapReturns (λ a head. Answered (Abort transaction) h (columns keys.now times.now values.now marks.now) a head) result }
+    ensures { Returns (λ a head. Answered (Abort transaction) h (columns keys.now times.now values.now marks.now) a head) result.head result.answer }
 {
     map_store::abort::abort(h, keys, times, values, marks, transaction).into()
 }
@@ -90,7 +90,7 @@ pub fn registers_map_commit(
     transaction: u32,
     time: u64,
 ) -> MapResult
-    ensures { MapReturns (λ a head. Committed transaction time h (columns keys.old times.old values.old marks.old) a head (columns keys.new times.new values.new marks.new)) result }
+    ensures { Returns (λ a head. Committed transaction time h (columns keys.old times.old values.old marks.old) a head (columns keys.new times.new values.new marks.new)) result.head result.answer }
 {
     map_commit::commit(h, keys, times, values, marks, transaction, time).into()
 }
@@ -150,7 +150,7 @@ pub fn registers_map_checkpoint(
     marks: &mut [u8],
     time: u64,
 ) -> MapResult
-    ensures { MapReturns (λ a head. Checkpointed time h (columns keys.old times.old values.old marks.old) a head (columns keys.new times.new values.new marks.new)) result }
+    ensures { Returns (λ a head. Checkpointed time h (columns keys.old times.old values.old marks.old) a head (columns keys.new times.new values.new marks.new)) result.head result.answer }
 {
     map_checkpoint::checkpoint(h, keys, times, values, marks, time).into()
 }

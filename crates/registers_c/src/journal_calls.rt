@@ -3,7 +3,7 @@ ghost use Rattle.std.specs.Prelude.{◌≡◌};
 ghost use Rattle.rules.specs.Calls.{Begin, Update, Abort, Commit};
 ghost use Rattle.journal_store.specs.Shape.{empty_head};
 ghost use Rattle.journal_store.specs.CallContracts.{Wrote, read_decided, lookup_decided, shaped_reply, ListedBy, Checkpointed, Recovered};
-ghost use Rattle.registers.specs.Answer.{Answers, JournalReturns};
+ghost use Rattle.registers.specs.Answer.{Answers, Returns};
 
 use answer::shown::Answer;
 use journal_store::Head;
@@ -27,7 +27,7 @@ pub extern "C" fn registers_journal_begin(
     journal: &mut [u8],
     time: u64,
 ) -> JournalResult
-    ensures { JournalReturns (λ a head. Wrote (Begin time) h keys.now values.now journal.old a head journal.new) result }
+    ensures { Returns (λ a head. Wrote (Begin time) h keys.now values.now journal.old a head journal.new) result.head result.answer }
 {
     registers::journal_calls::registers_journal_begin(h, keys, values, journal, time)
 }
@@ -43,7 +43,7 @@ pub extern "C" fn registers_journal_assign(
     key: u32,
     value: u32,
 ) -> JournalResult
-    ensures { JournalReturns (λ a head. Wrote (Update transaction key (Effect.Assign value)) h keys.now values.now journal.old a head journal.new) result }
+    ensures { Returns (λ a head. Wrote (Update transaction key (Effect.Assign value)) h keys.now values.now journal.old a head journal.new) result.head result.answer }
 {
     registers::journal_calls::registers_journal_assign(
         h,
@@ -67,7 +67,7 @@ pub extern "C" fn registers_journal_add(
     key: u32,
     amount: u32,
 ) -> JournalResult
-    ensures { JournalReturns (λ a head. Wrote (Update transaction key (Effect.Add amount)) h keys.now values.now journal.old a head journal.new) result }
+    ensures { Returns (λ a head. Wrote (Update transaction key (Effect.Add amount)) h keys.now values.now journal.old a head journal.new) result.head result.answer }
 {
     registers::journal_calls::registers_journal_add(
         h,
@@ -89,7 +89,7 @@ pub extern "C" fn registers_journal_abort(
     journal: &mut [u8],
     transaction: u32,
 ) -> JournalResult
-    ensures { JournalReturns (λ a head. Wrote (Abort transaction) h keys.now values.now journal.old a head journal.new) result }
+    ensures { Returns (λ a head. Wrote (Abort transaction) h keys.now values.now journal.old a head journal.new) result.head result.answer }
 {
     registers::journal_calls::registers_journal_abort(h, keys, values, journal, transaction)
 }
@@ -104,7 +104,7 @@ pub extern "C" fn registers_journal_commit(
     transaction: u32,
     time: u64,
 ) -> JournalResult
-    ensures { JournalReturns (λ a head. Wrote (Commit transaction time) h keys.now values.now journal.old a head journal.new) result }
+    ensures { Returns (λ a head. Wrote (Commit transaction time) h keys.now values.now journal.old a head journal.new) result.head result.answer }
 {
     registers::journal_calls::registers_journal_commit(h, keys, values, journal, transaction, time)
 }
@@ -166,7 +166,7 @@ pub extern "C" fn registers_journal_checkpoint(
     journal: &mut [u8],
     time: u64,
 ) -> JournalResult
-    ensures { JournalReturns (λ a head. Checkpointed time h keys.old values.old journal.old a head keys.new values.new journal.new) result }
+    ensures { Returns (λ a head. Checkpointed time h keys.old values.old journal.old a head keys.new values.new journal.new) result.head result.answer }
 {
     registers::journal_calls::registers_journal_checkpoint(h, keys, values, journal, time)
 }
@@ -180,7 +180,7 @@ pub extern "C" fn registers_journal_recover(
     journal: &mut [u8],
     survived: usize,
 ) -> JournalResult
-    ensures { JournalReturns (λ a head. Recovered h keys.now values.now journal.old survived a head journal.new) result }
+    ensures { Returns (λ a head. Recovered h keys.now values.now journal.old survived a head journal.new) result.head result.answer }
 {
     registers::journal_calls::registers_journal_recover(h, keys, values, journal, survived)
 }

@@ -4,7 +4,7 @@ ghost use Rattle.rules.specs.Calls.{Begin, Update, Abort};
 ghost use Rattle.versions.specs.Versions.{columns};
 ghost use Rattle.map_store.specs.Shape.{empty_head};
 ghost use Rattle.map_store.specs.CallContracts.{Answered, Committed, read_reply, lookup_reply, ListedAt, Checkpointed};
-ghost use Rattle.registers.specs.Answer.{Answers, MapReturns};
+ghost use Rattle.registers.specs.Answer.{Answers, Returns};
 
 use answer::shown::Answer;
 use map_store::MapHead;
@@ -29,7 +29,7 @@ pub extern "C" fn registers_map_begin(
     marks: &[u8],
     time: u64,
 ) -> MapResult
-    ensures { MapReturns (λ a head. Answered (Begin time) h (columns keys.now times.now values.now marks.now) a head) result }
+    ensures { Returns (λ a head. Answered (Begin time) h (columns keys.now times.now values.now marks.now) a head) result.head result.answer }
 {
     registers::map_calls::registers_map_begin(h, keys, times, values, marks, time)
 }
@@ -46,7 +46,7 @@ pub extern "C" fn registers_map_assign(
     key: u32,
     value: u32,
 ) -> MapResult
-    ensures { MapReturns (λ a head. Answered (Update transaction key (Effect.Assign value)) h (columns keys.now times.now values.now marks.now) a head) result }
+    ensures { Returns (λ a head. Answered (Update transaction key (Effect.Assign value)) h (columns keys.now times.now values.now marks.now) a head) result.head result.answer }
 {
     registers::map_calls::registers_map_assign(
         h,
@@ -72,7 +72,7 @@ pub extern "C" fn registers_map_add(
     key: u32,
     amount: u32,
 ) -> MapResult
-    ensures { MapReturns (λ a head. Answered (Update transaction key (Effect.Add amount)) h (columns keys.now times.now values.now marks.now) a head) result }
+    ensures { Returns (λ a head. Answered (Update transaction key (Effect.Add amount)) h (columns keys.now times.now values.now marks.now) a head) result.head result.answer }
 {
     registers::map_calls::registers_map_add(h, keys, times, values, marks, transaction, key, amount)
 }
@@ -87,7 +87,7 @@ pub extern "C" fn registers_map_abort(
     marks: &[u8],
     transaction: u32,
 ) -> MapResult
-    ensures { MapReturns (λ a head. Answered (Abort transaction) h (columns keys.now times.now values.now marks.now) a head) result }
+    ensures { Returns (λ a head. Answered (Abort transaction) h (columns keys.now times.now values.now marks.now) a head) result.head result.answer }
 {
     registers::map_calls::registers_map_abort(h, keys, times, values, marks, transaction)
 }
@@ -103,7 +103,7 @@ pub extern "C" fn registers_map_commit(
     transaction: u32,
     time: u64,
 ) -> MapResult
-    ensures { MapReturns (λ a head. Committed transaction time h (columns keys.old times.old values.old marks.old) a head (columns keys.new times.new values.new marks.new)) result }
+    ensures { Returns (λ a head. Committed transaction time h (columns keys.old times.old values.old marks.old) a head (columns keys.new times.new values.new marks.new)) result.head result.answer }
 {
     registers::map_calls::registers_map_commit(h, keys, times, values, marks, transaction, time)
 }
@@ -167,7 +167,7 @@ pub extern "C" fn registers_map_checkpoint(
     marks: &mut [u8],
     time: u64,
 ) -> MapResult
-    ensures { MapReturns (λ a head. Checkpointed time h (columns keys.old times.old values.old marks.old) a head (columns keys.new times.new values.new marks.new)) result }
+    ensures { Returns (λ a head. Checkpointed time h (columns keys.old times.old values.old marks.old) a head (columns keys.new times.new values.new marks.new)) result.head result.answer }
 {
     registers::map_calls::registers_map_checkpoint(h, keys, times, values, marks, time)
 }
