@@ -9,15 +9,18 @@ use Rattle.map_store.specs.declared.MapHead.{MapHead}
 abbrev pub journal_sample : Head
 journal_sample = record { low = 1; floor = 2; base = record { rows = 3 }; journal = record { used = 4 } }
 
+-- so many cells, the first made of a number, the next of the one after it
+unfoldable pub cells_from : {A : Type 0} → (ℕ → A) → ℕ → ℕ → List A
+cells_from cell n zero = []
+cells_from cell n (suc count) = cell n ∷ cells_from cell (n + 1) count
+
 -- so many numbers from the first on
-unfoldable pub counted_from : ℕ → ℕ → List ℕ
-counted_from n zero = []
-counted_from n (suc count) = n ∷ counted_from (n + 1) count
+abbrev pub counted_from : ℕ → ℕ → List ℕ
+counted_from = cells_from (λ n. n)
 
 -- the same as single bytes, modulo 256
-unfoldable pub marked_from : ℕ → ℕ → List ℕ
-marked_from n zero = []
-marked_from n (suc count) = (n % 256) ∷ marked_from (n + 1) count
+abbrev pub marked_from : ℕ → ℕ → List ℕ
+marked_from = cells_from (λ n. n % 256)
 
 -- the fields of a slot, counted from n on
 abbrev pub slot_from : ℕ → Slot

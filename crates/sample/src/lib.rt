@@ -1,9 +1,9 @@
 // A head of each store whose fields hold their own places, so that a host reads order, width and offset of all fields off one struct.
 #![tactic(auto)]
 
-ghost use Rattle.std.specs.Prelude.{◌≡◌, ◌≤◌};
+ghost use Rattle.std.specs.Prelude.{◌≡◌, ◌≤◌, ◌%◌, ℕ};
 ghost use Rattle.rules.specs.Limits.{most_running, most_keys};
-ghost use Rattle.sample.specs.Sample.{journal_sample, map_sample, counted_from, marked_from, slot_from, slots_from};
+ghost use Rattle.sample.specs.Sample.{journal_sample, map_sample, cells_from, slot_from, slots_from};
 
 use journal::{Base, Journal};
 use journal_store::Head;
@@ -44,14 +44,9 @@ fn slots_from(place: u32) -> [Slot; 8]
     requires { place ≤ 1000 }
     ensures { result ≡ slots_from place most_running }
 {
-    let free = Slot::free();
-    let mut slots = [free; Slots::SLOTS];
-    let mut at = place;
-    let mut i = 0;
-    while i < Slots::SLOTS {
-        slots[i] = slot_from(at);
-        at += SLOT_FIELDS;
-        i += 1;
+    let mut slots = [Slot::free(); Slots::SLOTS];
+    for i in 0..Slots::SLOTS {
+        slots[i] = slot_from(place + SLOT_FIELDS * i as u32);
     }
     slots
 }
@@ -61,9 +56,9 @@ fn slot_from(place: u32) -> Slot
     requires { place ≤ 2000 }
     ensures { result ≡ slot_from place }
 {
-    let keys = counted_from(place + 3);
-    let values = counted_from(place + 3 + Slot::KEYS as u32);
-    let marks = marked_from(place + 3 + 2 * Slot::KEYS as u32);
+    let keys = cells_from(place + 3);
+    let values = cells_from(place + 3 + Slot::KEYS as u32);
+    let marks = cells_from(place + 3 + 2 * Slot::KEYS as u32);
     Slot {
         number: place,
         snapshot: (place + 1) as u64,
@@ -74,34 +69,40 @@ fn slot_from(place: u32) -> Slot
     }
 }
 
-// The rows of a slot's keys or values, whose first has the place given.
-fn counted_from(place: u32) -> [u32; 32]
-    requires { place ≤ 3000 }
-    ensures { result ≡ counted_from place most_keys }
-{
-    let mut cells = [0; Slot::KEYS];
-    let mut at = place;
-    let mut i = 0;
-    while i < Slot::KEYS {
-        cells[i] = at;
-        at += 1;
-        i += 1;
-    }
-    cells
+// A cell that holds its place.
+trait Placed {
+    ghost placed: { ℕ → Self };
+
+    fn placed(place: u32) -> Self
+        ensures { result ≡ placed place };
 }
 
-// The rows of a slot's marks, whose first has the place given, modulo 256.
-fn marked_from(place: u32) -> [u8; 32]
+// A row of a slot's keys or values.
+impl Placed for u32 {
+    ghost placed = { λ n. n };
+
+    fn placed(place: u32) -> u32 {
+        place
+    }
+}
+
+// A row of a slot's marks, modulo 256.
+impl Placed for u8 {
+    ghost placed = { λ n. n % 256 };
+
+    fn placed(place: u32) -> u8 {
+        (place % 256) as u8
+    }
+}
+
+// The rows of a slot's keys, values or marks, whose first has the place given.
+fn cells_from<T: Placed + Copy>(place: u32) -> [T; 32]
     requires { place ≤ 3000 }
-    ensures { result ≡ marked_from place most_keys }
+    ensures { result ≡ cells_from T.placed place most_keys }
 {
-    let mut cells = [0; Slot::KEYS];
-    let mut at = place;
-    let mut i = 0;
-    while i < Slot::KEYS {
-        cells[i] = (at % 256) as u8;
-        at += 1;
-        i += 1;
+    let mut cells = [T::placed(place); Slot::KEYS];
+    for i in 0..Slot::KEYS {
+        cells[i] = T::placed(place + i as u32);
     }
     cells
 }
