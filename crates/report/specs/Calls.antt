@@ -1,6 +1,6 @@
 -- What list and recover of the journal store give here: a list at last with room for every row is never refused, and the reply of recover decides
 -- the text. Assumes nothing.
-use Rattle.std.specs.Prelude.{◌≡◌, refl, Bool, true, false, cond, not, ◌&&◌, List, ◌++◌, ℕ, ◌≤◌, eqb, leb, length, take, drop, Option, Some, None}
+use Rattle.std.specs.Prelude.{◌≡◌, refl, Bool, true, false, cond, not, ◌&&◌, List, ◌++◌, ℕ, ◌≤◌, eqb, leb, length, take, drop, Option, Some, None, Result, Ok, Err}
 use Rattle.std.proofs.Common.{sym, ap, ◌∙◌, zero-add, arith, length-append, le-ltb, leb-true, leb-false, eqb-true}
 use Rattle.std.proofs.Math.Nat.{le-min}
 use Rattle.std.proofs.lemmas.Bool.{eqb-false, not-true}
@@ -18,10 +18,6 @@ use Rattle.rules.specs.Recovery.{walk, survivors}
 use Rattle.record.specs.Bytes.{Bytes, records_in}
 use Rattle.record.specs.Laws.{length_records}
 use Rattle.answer.specs.declared.Refusal.{Refusal}
-use Rattle.answer.specs.declared.Done.{Done}
-use Rattle.answer.specs.declared.Done.TheVariants as done_as
-use Rattle.answer.specs.declared.Listed.{Listed}
-use Rattle.answer.specs.declared.Listed.TheVariants as listed_as
 use Rattle.answer.specs.Reply.{Reply, number_of, place_number, refused, of_done, of_listed, after}
 use Rattle.answer.specs.Laws.{refused_some}
 use Rattle.compact.specs.Compact.{compacted}
@@ -63,22 +59,22 @@ module _ (h : Head) (keys values j : List ℕ) (t : ℕ) (listed contents : List
       ap (λ (b : Bool). cond b (list_answer (length listed) t s) 1) shaped
       ∙ sym (ap (λ (r : Reply). r.number) (list_rows (length listed) t s (rw e (low_last h.low s.records)) false (sym (le-ltb (last_of s) t (omega (arith, e)))) refl (length (list_of t s)) refl fits))
 
-  module _ (answer : Listed) {listed' contents' : List ℕ} (b : ListedBy h keys values j t listed contents (of_listed answer) listed' contents') where
-    pub never_refused : {P : Type 0} (x : Refusal) → answer ≡ listed_as.Refused x → P
+  module _ (answer : Result ℕ Refusal) {listed' contents' : List ℕ} (b : ListedBy h keys values j t listed contents (of_listed answer) listed' contents') where
+    pub never_refused : {P : Type 0} (x : Refusal) → answer ≡ Err x → P
     never_refused x f =
-        let z : number_of x ≡ 0 = sym (ap (λ (y : Listed). (of_listed y).number) f) ∙ ap (λ (r : Reply). r.number) b.reply ∙ accepted_number in
+        let z : number_of x ≡ 0 = sym (ap (λ (y : Result ℕ Refusal). (of_listed y).number) f) ∙ ap (λ (r : Reply). r.number) b.reply ∙ accepted_number in
         not_both (eqb (number_of x) 0) (rw z) (refused_some x)
 
-    list_count : (n : ℕ) → answer ≡ listed_as.Rows n → n ≡ length (list_of t (meaning h keys values j))
+    list_count : (n : ℕ) → answer ≡ Ok n → n ≡ length (list_of t (meaning h keys values j))
     list_count n f =
-        sym (ap (λ (y : Listed). or_zero (of_listed y).value) f) ∙ ap (λ (r : Reply). or_zero r.value) b.reply ∙ rw accepted_number
+        sym (ap (λ (y : Result ℕ Refusal). or_zero (of_listed y).value) f) ∙ ap (λ (r : Reply). or_zero r.value) b.reply ∙ rw accepted_number
 
     -- at most a row for each row of the base and each record
-    pub list_few : (n : ℕ) → answer ≡ listed_as.Rows n → n ≤ most_listed
+    pub list_few : (n : ℕ) → answer ≡ Ok n → n ≤ most_listed
     list_few n f = omega (arith, list_count n f, few_rows)
 
     -- what is printed is the list at last
-    pub list_text_lem : (n : ℕ) → answer ≡ listed_as.Rows n
+    pub list_text_lem : (n : ℕ) → answer ≡ Ok n
         → line time_is t ++ (line keys_is n ++ row_lines (first_rows n listed' contents')) ≡ list_text h.low (base_of h keys values) (records_in h.journal.used j)
     list_text_lem n f =
         let rows = list_of t (meaning h keys values j) in
@@ -153,18 +149,18 @@ module _ (h : Head) (keys values j : List ℕ) (survived : ℕ) where
       (λ f. rw f (walked_cells_lem (walk h.low (surviving survived j)) j survived))
       (λ f. rw f)
 
-  module _ (answer : Done) {head : Head} {exit : List ℕ} (d : Recovered h keys values j survived (of_done answer) head exit) where
+  module _ (answer : Result Unit Refusal) {head : Head} {exit : List ℕ} (d : Recovered h keys values j survived (of_done answer) head exit) where
     pub recover_cells : exit ≡ report_cells h keys values j survived
     recover_cells = d.cells ∙ reply_cells
 
-    pub refused_text_lem : (x : Refusal) → answer ≡ done_as.Refused x → refused_text (number_of x) (place_number x) ≡ report_text h keys values j survived
+    pub refused_text_lem : (x : Refusal) → answer ≡ Err x → refused_text (number_of x) (place_number x) ≡ report_text h keys values j survived
     refused_text_lem x f =
         let z : text_of (refused x) ≡ refused_text (number_of x) (place_number x) = rw (refused_some x) in
         sym z ∙ ap text_of (sym (ap of_done f) ∙ d.reply) ∙ reply_text_lem
 
-    module _ (f : answer ≡ done_as.Accepted) where
+    module _ (f : answer ≡ Ok tt) where
       number_zero : (recover_reply h keys values j survived).number ≡ 0
-      number_zero = sym (ap (λ (a : Reply). a.number) d.reply) ∙ ap (λ (y : Done). (of_done y).number) f
+      number_zero = sym (ap (λ (a : Reply). a.number) d.reply) ∙ ap (λ (y : Result Unit Refusal). (of_done y).number) f
 
       headed : head ≡ recovered_head h (surviving survived j)
       headed = d.headed ∙ rw number_zero

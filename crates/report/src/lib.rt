@@ -10,7 +10,7 @@ ghost use Rattle.journal_store.specs.Shape.{Shaped};
 ghost use Rattle.report.specs.Text.{field as field_text, line as line_text, pair_line, row_lines, list_text, refused_text, base_of, row_bytes, text_bytes};
 ghost use Rattle.report.specs.Written.{Written, Reported};
 
-use answer::Refusal;
+use answer::{Outcome, Refusal};
 use journal::{Base, Journal};
 use journal_store::Head;
 
@@ -34,12 +34,9 @@ pub fn put(out: &mut [u8], at: usize, text: &[u8]) -> usize
     requires { at + length text.now ≤ length out.old }
     ensures { Written out.old at text.now result out.new }
 {
-    let mut i = 0;
-    while i < text.len() {
-        out[at + i] = text[i];
-        i += 1;
-    }
-    at + i
+    let end = at + text.len();
+    out[at..end].copy_from_slice(text);
+    end
 }
 
 // A name and its number.
@@ -75,17 +72,9 @@ fn rows(out: &mut [u8], at: usize, keys: &[u32], values: &[u32], count: usize) -
     ensures { Written out.old at (row_lines (first_rows count keys.now values.now)) result out.new }
 {
     let mut next = at;
-    let mut i = 0;
-    while i < count {
-        next = pair(
-            out,
-            next,
-            b"key=",
-            keys[i] as u64,
-            b" value=",
-            values[i] as u64,
-        );
-        i += 1;
+    for i in 0..count {
+        let (key, value) = (keys[i] as u64, values[i] as u64);
+        next = pair(out, next, b"key=", key, b" value=", value);
     }
     next
 }
@@ -109,8 +98,7 @@ fn listing(out: &mut [u8], h: Head, keys: &[u32], values: &[u32], journal: &[u8]
     let mut contents = [0u32; ROWS];
     let used = h.journal.used;
     let last = journal::times::last(journal, used, h.low);
-    let answer = journal_list::list(h, keys, values, journal, last, &mut listed, &mut contents);
-    match answer {
+    match journal_list::list(h, keys, values, journal, last, &mut listed, &mut contents) {
         Err(refusal) => refused(out, refusal),
         Ok(count) => {
             let time = line(out, 0, b"time=", last);
@@ -132,10 +120,9 @@ pub fn report(
     requires { text_bytes ≤ length out.old }
     ensures { Reported h keys.now values.now journal.old survived out.old result journal.new out.new }
 {
-    let outcome = journal_recovery::recover(h, keys, values, journal, survived);
-    let answer = outcome.answer;
+    let Outcome { head, answer } = journal_recovery::recover(h, keys, values, journal, survived);
     match answer {
         Err(refusal) => refused(out, refusal),
-        Ok(()) => listing(out, outcome.head, keys, values, journal),
+        Ok(()) => listing(out, head, keys, values, journal),
     }
 }

@@ -43,26 +43,26 @@ line-time-requires c = time_fits c.args.out.now c.last-last.result 0 c.requires.
 
 pub line-head-requires : goal.line-head-requires
 line-head-requires c =
-    let n = c.in-Rows.count in
-    let few = list_few c.args.h c.args.keys.now c.args.values.now c.args.journal.now _ _ _ c.requires.0 refl refl c.last-last.ensures _ c.in-Rows.ensures n refl in
+    let n = c.in-Ok.count in
+    let few = list_few c.args.h c.args.keys.now c.args.values.now c.args.journal.now _ _ _ c.requires.0 refl refl c.last-last.ensures _ c.in-Ok.ensures n refl in
     count_fits c.args.out.now c.last-last.result n c.requires.1 (omega arith) few _ c.line-time.ensures
 
 pub rows-requires : goal.rows-requires
 rows-requires c =
-    let n = c.in-Rows.count in
-    let few = list_few c.args.h c.args.keys.now c.args.values.now c.args.journal.now _ _ _ c.requires.0 refl refl c.last-last.ensures _ c.in-Rows.ensures n refl in (
+    let n = c.in-Ok.count in
+    let few = list_few c.args.h c.args.keys.now c.args.values.now c.args.journal.now _ _ _ c.requires.0 refl refl c.last-last.ensures _ c.in-Ok.ensures n refl in (
       omega (arith, few),
       omega (arith, few),
       rows_fit c.args.out.now c.last-last.result n c.requires.1 (omega arith) few _ c.line-time.ensures _ c.line-head.ensures,
     )
 
-pub returns-in-Refused : goal.returns-in-Refused
-returns-in-Refused c = never_refused c.args.h c.args.keys.now c.args.values.now c.args.journal.now _ _ _ c.requires.0 refl refl c.last-last.ensures _ c.in-Refused.ensures _ refl
+pub returns-in-Err : goal.returns-in-Err
+returns-in-Err c = never_refused c.args.h c.args.keys.now c.args.values.now c.args.journal.now _ _ _ c.requires.0 refl refl c.last-last.ensures _ c.in-Err.ensures _ refl
 
-pub returns-in-Rows : goal.returns-in-Rows
-returns-in-Rows c =
-    let n = c.in-Rows.count in
-    let few = list_few c.args.h c.args.keys.now c.args.values.now c.args.journal.now _ _ _ c.requires.0 refl refl c.last-last.ensures _ c.in-Rows.ensures n refl in
+pub returns-in-Ok : goal.returns-in-Ok
+returns-in-Ok c =
+    let n = c.in-Ok.count in
+    let few = list_few c.args.h c.args.keys.now c.args.values.now c.args.journal.now _ _ _ c.requires.0 refl refl c.last-last.ensures _ c.in-Ok.ensures n refl in
     called
-    (list_text_lem c.args.h c.args.keys.now c.args.values.now c.args.journal.now _ _ _ c.requires.0 refl refl c.last-last.ensures _ c.in-Rows.ensures n refl)
+    (list_text_lem c.args.h c.args.keys.now c.args.values.now c.args.journal.now _ _ _ c.requires.0 refl refl c.last-last.ensures _ c.in-Ok.ensures n refl)
     (whole c.args.out.now c.last-last.result n c.requires.1 (omega arith) few _ c.line-time.ensures _ c.line-head.ensures c.rows.ensures)

@@ -8,5 +8,5 @@ use Rattle.report.proofs.refused.Goals as goal
 pub pair-requires : goal.pair-requires
 pair-requires c =
     let n = c.number-number.result in
-    let p = c.place-place.result in
+    let p = c.unwrap_or-place.result in
     omega (arith, length_pair refused_is record_is n p, digits_64 n (omega arith), digits_64 p (omega arith))

@@ -22,7 +22,7 @@ module _ (keys values : List ℕ) (count : ℕ) where
       rw (w, drop-cons keys i 0 (omega arith), drop-cons values i 0 (omega arith), add-one)
 
   starts : (b : List ℕ) (at : ℕ) → at + count * row_bytes ≤ length b → Going keys values count b at b at 0
-  starts b at h = record { few = omega arith; same = refl; room = omega arith; ends = rw sub-zero; goes = rw sub-zero }
+  starts b at h = record { same = refl; room = omega arith; ends = rw sub-zero; goes = rw sub-zero }
 
   module _ {b₀ b : List ℕ} {at n i : ℕ} (g : Going keys values count b₀ at b n i) (l : i < count) (h : count ≤ length keys) (k : count ≤ length values)
       (ks : get_or keys i 0 < 2 ^ 32) (vs : get_or values i 0 < 2 ^ 32) where
@@ -35,7 +35,6 @@ module _ (keys values : List ℕ) (count : ℕ) where
         let e = rest_step i l h k in
         let f : length b' ≡ length b = length_written fits p in
         record {
-          few = omega arith;
           same = f ∙ g.same;
           room = omega (arith, g.room, p.next, row_bytes_lem (get_or keys i 0) (get_or values i 0) ks vs);
           ends = omega (arith, g.ends, p.next, ap length e, length-append x (rest keys values count (i + 1)));

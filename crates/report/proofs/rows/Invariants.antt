@@ -15,7 +15,6 @@ module _ (keys values : List ℕ) (count : ℕ) where
 
   -- n is the place behind i lines, and the rest completes the text
   pub record Going (b₀ : List ℕ) (at : ℕ) (b : List ℕ) (n i : ℕ) : Type 0 where
-    pub few : i ≤ count
     pub same : length b ≡ length b₀
     pub room : n + (count - i) * row_bytes ≤ length b
     pub ends : n + length (rest i) ≡ at + length (row_lines (first_rows count keys values))
@@ -23,6 +22,3 @@ module _ (keys values : List ℕ) (count : ℕ) where
 
 abbrev pub invariant-loop-i : goal.invariant-loop-i
 invariant-loop-i l = Going l.keys l.values l.count l.initial.out l.at l.out l.next l.i
-
-abbrev pub decreases-loop-i : goal.decreases-loop-i
-decreases-loop-i l = l.count - l.i
