@@ -43,7 +43,7 @@ fn refused(h: Head, why: Refusal) -> Outcome<Head, ()>
 // What a store of good shape answers before it is known whether the list fits.
 fn decide(h: Head, keys: &[u32], values: &[u32], journal: &[u8], t: u64) -> Result<(), Refusal>
     requires { Shaped h (length keys.now) (length values.now) (length journal.now) }
-    ensures { of_done result ≡ told (checkpoint_refusal t (meaning h keys.now values.now journal.now)) Absent }
+    ensures { of_done result ≡ told (checkpoint_refusal t (meaning h keys.now values.now journal.now)) None }
 {
     let used = h.journal.used;
     if t < h.low {

@@ -16,11 +16,6 @@ use Rattle.journal_store.specs.declared.Head.{Head}
 use Rattle.journal_store.specs.Shape.{is_shaped, room_of, meaning, row_room}
 use Rattle.journal_store.specs.Heads.{grown, checkpoint_head, recovered_head}
 
--- an accepted record is written behind the used ones and counted; otherwise nothing changes
-pub record Put (h : Head) (j : List ℕ) (accepted : Bool) (r : Record) (head : Head) (exit : List ℕ) : Type 0 where
-  pub headed : head ≡ cond accepted (grown h) h
-  pub cells : exit ≡ cond accepted (appended j h.journal.used r) j
-
 -- what a store of good shape with so much room answers
 pub record Decided (c : Call) (room : ℕ) (s : Store) (a : Reply) : Type 0 where
   pub reply : a ≡ told (answer room c s) (gives c s)
@@ -29,6 +24,10 @@ pub record Decided (c : Call) (room : ℕ) (s : Store) (a : Reply) : Type 0 wher
 abbrev pub number : Call → Head → List ℕ → List ℕ → List ℕ → ℕ
 number c h keys values j =
     cond (is_shaped h (length keys) (length values) (length j)) (answer (room_of (length j)) c (meaning h keys values j)) 1
+
+-- what a call answers to a store of any shape
+pub record Told (c : Call) (h : Head) (keys values j : List ℕ) (a : Reply) : Type 0 where
+  pub reply : a ≡ told (number c h keys values j) (gives c (meaning h keys values j))
 
 -- the answer; the head and the journal's bytes with one record more where the call is accepted, and as they were where it is refused
 pub record Wrote (c : Call) (h : Head) (keys values j : List ℕ) (a : Reply) (head : Head) (exit : List ℕ) : Type 0 where

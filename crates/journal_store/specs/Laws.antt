@@ -11,6 +11,7 @@ use Rattle.rules.specs.Lists.{row_keys}
 use Rattle.rules.specs.Columns.{row_values, Filled}
 use Rattle.rules.specs.Recovery.{walk, survivors}
 use Rattle.record.specs.Bytes.{appended}
+use Rattle.record.specs.Laws.{length_records}
 use Rattle.answer.specs.declared.Refusal.TheVariants.{BadShape, NoRoom}
 use Rattle.answer.specs.Reply.{Reply, refused, told, accepted, number_of, place_of}
 use Rattle.answer.specs.Laws.{after_refused, refused_some}
@@ -19,7 +20,7 @@ use Rattle.compact.specs.Compact.{compacted}
 use Rattle.journal_store.specs.declared.Head.{Head}
 use Rattle.journal_store.specs.Shape.{is_shaped, room_of, meaning, row_room}
 use Rattle.journal_store.specs.Heads.{grown, checkpoint_head, recovered_head}
-use Rattle.journal_store.specs.CallContracts.{Put, Decided, number, Wrote, shaped_reply, list_decided, is_list_shaped, list_number, ListedBy, checkpoint_number, Checkpointed, is_recoverable, surviving, recover_reply, Recovered}
+use Rattle.journal_store.specs.CallContracts.{Decided, number, Told, Wrote, shaped_reply, list_decided, is_list_shaped, list_number, ListedBy, checkpoint_number, Checkpointed, is_recoverable, surviving, recover_reply, Recovered}
 
 -- an accepted call has the room that it needs
 pub room_left : (room : ℕ) (c : Call) (s : Store) → answer room c s ≡ 0 → length s.records + need c s ≤ room
@@ -31,48 +32,51 @@ need_some (Update n k e) s = omega arith
 need_some (Abort n) s = omega arith
 need_some (Commit n t) s = omega arith
 
--- an accepted call has room for its record
-pub has_room : {c : Call} {room used : ℕ} {s : Store} {a : Reply} {accepted : Bool} → Decided c room s a → accepted ≡ eqb a.number 0
-    → length s.records ≡ used → accepted ≡ true → used + 1 ≤ room
-has_room {c} {room} {used} {s} {a} d y u e =
-    let z : answer room c s ≡ 0 = eqb-true (answer room c s) 0 (sym (ap (λ (r : Reply). eqb r.number 0) d.reply) ∙ sym y ∙ e) in
-    omega (arith, room_left room c s z, need_some c s)
-
 -- the number of a call, by the shape test
 counted : (c : Call) (h : Head) (keys values j : List ℕ) (b : Bool) → is_shaped h (length keys) (length values) (length j) ≡ b
     → number c h keys values j ≡ cond b (answer (room_of (length j)) c (meaning h keys values j)) 1
 counted c h keys values j b e = ap (λ (x : Bool). cond x (answer (room_of (length j)) c (meaning h keys values j)) 1) e
 
 module _ {c : Call} {h : Head} {keys values j : List ℕ} where
-  -- a store of bad shape: refused, and nothing changes
-  pub bad_shape : is_shaped h (length keys) (length values) (length j) ≡ false → Wrote c h keys values j (refused BadShape) h j
-  bad_shape e =
-      let q = counted c h keys values j false e in
-      record {
-        reply = sym (ap (λ (n : ℕ). told n (gives c (meaning h keys values j))) q);
-        headed = after_refused BadShape (number c h keys values j) (grown h) h q;
-        cells = after_refused BadShape (number c h keys values j) (appended j h.journal.used (record_of c (meaning h keys values j))) j q;
-      }
+  -- what is told of a store of bad shape
+  pub told_bad : is_shaped h (length keys) (length values) (length j) ≡ false → Told c h keys values j (refused BadShape)
+  told_bad e = record { reply = sym (ap (λ (n : ℕ). told n (gives c (meaning h keys values j))) (counted c h keys values j false e)) }
 
-  -- what was decided and put is what the call writes
-  module _ {a : Reply} {accepted : Bool} {r : Record} {head : Head} {exit : List ℕ} where
-    pub wrote : is_shaped h (length keys) (length values) (length j) ≡ true → Decided c (room_of (length j)) (meaning h keys values j) a
-        → accepted ≡ eqb a.number 0 → (accepted ≡ true → r ≡ record_of c (meaning h keys values j)) → Put h j accepted r head exit
-        → Wrote c h keys values j a head exit
-    wrote shaped d y rec p =
-        let q = counted c h keys values j true shaped in
-        let accepts : accepted ≡ eqb (number c h keys values j) 0 = y ∙ ap (λ (x : Reply). eqb x.number 0) d.reply ∙ ap (λ (n : ℕ). eqb n 0) (sym q) in
-        record {
-          reply = d.reply ∙ ap (λ (n : ℕ). told n (gives c (meaning h keys values j))) (sym q);
-          headed = p.headed ∙ ap (λ (b : Bool). cond b (grown h) h) accepts;
-          cells =
-              p.cells
-              ∙ split accepted
-              (λ e. ap (λ (b : Bool). cond b (appended j h.journal.used r) j) e ∙ ap (appended j h.journal.used) (rec e)
-              ∙ ap (λ (b : Bool). cond b (appended j h.journal.used (record_of c (meaning h keys values j))) j) (sym e ∙ accepts))
-              (λ e. ap (λ (b : Bool). cond b (appended j h.journal.used r) j) e
-              ∙ ap (λ (b : Bool). cond b (appended j h.journal.used (record_of c (meaning h keys values j))) j) (sym e ∙ accepts));
-        }
+  module _ {a : Reply} where
+    -- and of one of good shape
+    pub told_good : is_shaped h (length keys) (length values) (length j) ≡ true → Decided c (room_of (length j)) (meaning h keys values j) a → Told c h keys values j a
+    told_good e d =
+        record { reply = d.reply ∙ ap (λ (n : ℕ). told n (gives c (meaning h keys values j))) (sym (counted c h keys values j true e)) }
+
+    module _ (w : Told c h keys values j a) where
+      told_number : a.number ≡ number c h keys values j
+      told_number = ap (λ (r : Reply). r.number) w.reply
+
+      -- an accepted call has room for its record
+      pub has_room : a.number ≡ 0 → h.journal.used + 1 ≤ room_of (length j)
+      has_room z =
+          split (is_shaped h (length keys) (length values) (length j))
+          (λ e.
+            let q : answer (room_of (length j)) c (meaning h keys values j) ≡ 0 = sym (counted c h keys values j true e) ∙ sym told_number ∙ z in
+            omega (arith, room_left (room_of (length j)) c (meaning h keys values j) q, need_some c (meaning h keys values j), length_records h.journal.used j))
+          (λ e. let q : ◌≡◌ {A = ℕ} 1 0 = sym (counted c h keys values j false e) ∙ sym told_number ∙ z in absurd (omega (arith, q)))
+
+      -- what it gives
+      pub given : a.number ≡ 0 → a.value ≡ gives c (meaning h keys values j)
+      given z = ap (λ (r : Reply). r.value) w.reply ∙ ap (λ (n : ℕ). cond (eqb n 0) (gives c (meaning h keys values j)) None) (sym told_number ∙ z)
+
+      -- a refused call changes nothing
+      pub unwritten : eqb a.number 0 ≡ false → Wrote c h keys values j a h j
+      unwritten z =
+          let e : eqb (number c h keys values j) 0 ≡ false = ap (λ (n : ℕ). eqb n 0) (sym told_number) ∙ z in
+          record { reply = w.reply; headed = rw e; cells = rw e }
+
+      -- an accepted one writes its record
+      pub wrote : a.number ≡ 0 → {head : Head} {exit : List ℕ} → head ≡ grown h
+          → exit ≡ appended j h.journal.used (record_of c (meaning h keys values j)) → Wrote c h keys values j a head exit
+      wrote z p q =
+          let e : number c h keys values j ≡ 0 = sym told_number ∙ z in
+          record { reply = w.reply; headed = rw e p; cells = rw e q }
 
 -- what a store of good shape answers
 pub reply_good : (h : Head) (keys values j : List ℕ) (decided : Store → Reply) (r : Reply) → is_shaped h (length keys) (length values) (length j) ≡ true
