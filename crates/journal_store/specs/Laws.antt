@@ -1,8 +1,7 @@
 -- How a call's parts make its contract: what was decided on the meaning, then done to the cells if it was accepted. Assumes nothing.
 use Rattle.std.specs.Prelude.{◌≡◌, refl, Bool, true, false, cond, List, ◌++◌, ℕ, ◌+◌, ◌*◌, ◌≤◌, ◌<◌, eqb, length, drop, Some, None, Option}
-use Rattle.std.proofs.Common.{sym, ap, ◌∙◌, arith, eqb-true, le-leb}
+use Rattle.std.proofs.Common.{sym, ap, ◌∙◌, arith, le-leb}
 use Rattle.std.proofs.lemmas.Bool.{lt-leb}
-use Rattle.rules.specs.declared.Record.{Record}
 use Rattle.rules.specs.Bools.{split}
 use Rattle.rules.specs.Kinds.{record_size}
 use Rattle.rules.specs.Passed.{fitting}
@@ -57,8 +56,8 @@ module _ {c : Call} {h : Head} {keys values j : List ℕ} where
       has_room z =
           split (is_shaped h (length keys) (length values) (length j))
           (λ e.
-            let q : answer (room_of (length j)) c (meaning h keys values j) ≡ 0 = sym (counted c h keys values j true e) ∙ sym told_number ∙ z in
-            omega (arith, room_left (room_of (length j)) c (meaning h keys values j) q, need_some c (meaning h keys values j), length_records h.journal.used j))
+          let q : answer (room_of (length j)) c (meaning h keys values j) ≡ 0 = sym (counted c h keys values j true e) ∙ sym told_number ∙ z in
+          omega (arith, room_left (room_of (length j)) c (meaning h keys values j) q, need_some c (meaning h keys values j), length_records h.journal.used j))
           (λ e. let q : ◌≡◌ {A = ℕ} 1 0 = sym (counted c h keys values j false e) ∙ sym told_number ∙ z in absurd (omega (arith, q)))
 
       -- what it gives

@@ -1,8 +1,8 @@
 -- A store as a call reads it: what it means, its room, and what it is made from. Assumes nothing.
 use Rattle.std.specs.Prelude.{◌≡◌, true, false, List, ℕ, length, Result, MatchResult}
-use Rattle.rules.specs.Columns.{first_rows}
 use Rattle.rules.specs.Calls.{Store}
 use Rattle.record.specs.Records.{records_of}
+use Rattle.values.specs.Base.{base_rows}
 use Rattle.answer.specs.declared.Refusal.{Refusal}
 use Rattle.answer.specs.declared.Refusal.TheVariants.{BadShape}
 use Rattle.journal_store.specs.declared.Head.{Head}
@@ -11,7 +11,7 @@ use Rattle.journal_store.specs.Shape.{is_shaped, room_of}
 
 -- what it means
 abbrev pub meant : Lent → Store
-meant l = record { low = l.low; floor = l.floor; base = first_rows l.rows l.keys.now l.values.now; records = records_of l.records }
+meant l = record { low = l.low; floor = l.floor; base = base_rows l.base; records = records_of l.records }
 
 -- how many records its bytes have room for
 abbrev pub room_in : Lent → ℕ
@@ -22,9 +22,9 @@ pub record MadeOf (h : Head) (keys values j : List ℕ) (l : Lent) : Type 0 wher
   pub shaped : is_shaped h (length keys) (length values) (length j) ≡ true
   pub low : l.low ≡ h.low
   pub floor : l.floor ≡ h.floor
-  pub rows : l.rows ≡ h.base.rows
-  pub keys_column : l.keys.now ≡ keys
-  pub values_column : l.values.now ≡ values
+  pub rows : l.base.count ≡ h.base.rows
+  pub keys_column : l.base.keys.now ≡ keys
+  pub values_column : l.base.values.now ≡ values
   pub used : l.records.used ≡ h.journal.used
   pub cells : l.records.bytes.now ≡ j
 

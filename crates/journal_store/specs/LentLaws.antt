@@ -1,12 +1,12 @@
 -- A store that is made of a head and cells means what they mean, and what is decided on it is what the call answers. Assumes nothing.
 use Rattle.std.specs.Prelude.{◌≡◌, List, ℕ, Result, Ok, Err, MatchResult, length}
-use Rattle.std.proofs.Common.{sym, ap, ◌∙◌, subst}
+use Rattle.std.proofs.Common.{ap, ◌∙◌, subst}
 use Rattle.rules.specs.Columns.{first_rows}
 use Rattle.rules.specs.Value.{Value}
 use Rattle.rules.specs.Calls.{Store, Call}
 use Rattle.record.specs.Bytes.{records_in}
 use Rattle.answer.specs.declared.Refusal.{Refusal}
-use Rattle.answer.specs.Reply.{Reply, of_result, refused}
+use Rattle.answer.specs.Reply.{Reply, of_result}
 use Rattle.journal_store.specs.declared.Head.{Head}
 use Rattle.journal_store.specs.declared.store.Store.{Store as Lent}
 use Rattle.journal_store.specs.Shape.{meaning, room_of}

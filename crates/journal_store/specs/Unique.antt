@@ -1,6 +1,6 @@
 -- No second answer satisfies the contract of a public function of the journal store: not another answer, head or cell. Assumes nothing.
-use Rattle.std.specs.Prelude.{◌≡◌, Bool, List, ℕ, Result}
-use Rattle.std.proofs.Common.{sym, ◌∙◌}
+use Rattle.std.specs.Prelude.{◌≡◌, Bool, true, false, List, ℕ, Result, Ok, Err, MatchResult, IsOkAnd}
+use Rattle.std.proofs.Common.{sym, ap, ◌∙◌}
 use Rattle.rules.specs.declared.Effect.{Effect}
 use Rattle.rules.specs.Calls.{Store, Call, Begin, Update, Abort, Commit}
 use Rattle.rules.specs.Value.{Value}
@@ -9,11 +9,42 @@ use Rattle.answer.specs.declared.Refusal.{Refusal}
 use Rattle.answer.specs.Reply.{Reply, of_begun, of_got, of_done, of_listed}
 use Rattle.answer.specs.Laws.{begun_only, got_only, done_only, listed_only}
 use Rattle.journal_store.specs.declared.Head.{Head}
+use Rattle.journal_store.specs.declared.store.Store.{Store as Lent}
 use Rattle.journal_store.specs.Shape.{empty_head, is_shaped}
+use Rattle.journal_store.specs.Lent.{Opened}
 use Rattle.journal_store.specs.CallContracts.{Wrote, shaped_reply, read_decided, lookup_decided, ListedBy, Checkpointed, Recovered}
 
 pub shaped_unique : (h : Head) (keys values bytes : ℕ) (a b : Bool) → a ≡ is_shaped h keys values bytes → b ≡ is_shaped h keys values bytes → a ≡ b
 shaped_unique h keys values bytes a b p q = p ∙ sym q
+
+never : {b : Bool} → b ≡ true → b ≡ false → ⊥
+never p q = cc
+
+-- Store::new: stores that read alike, or the same refusal
+pub record Alike (a b : Lent) : Type 0 where
+  pub low : a.low ≡ b.low
+  pub floor : a.floor ≡ b.floor
+  pub rows : a.base.count ≡ b.base.count
+  pub keys_column : a.base.keys.now ≡ b.base.keys.now
+  pub values_column : a.base.values.now ≡ b.base.values.now
+  pub used : a.records.used ≡ b.records.used
+  pub cells : a.records.bytes.now ≡ b.records.bytes.now
+
+pub store_unique : (h : Head) (keys values j : List ℕ) (r s : Result Lent Refusal) → Opened h keys values j r → Opened h keys values j s
+    → MatchResult r (λ a. IsOkAnd s (Alike a)) (λ e. s ≡ Err e)
+store_unique h keys values j (Ok a) (Ok b) p q =
+    record {
+      low = p.low ∙ sym q.low;
+      floor = p.floor ∙ sym q.floor;
+      rows = p.rows ∙ sym q.rows;
+      keys_column = p.keys_column ∙ sym q.keys_column;
+      values_column = p.values_column ∙ sym q.values_column;
+      used = p.used ∙ sym q.used;
+      cells = p.cells ∙ sym q.cells;
+    }
+store_unique h keys values j (Ok a) (Err e) p q = absurd (never p.shaped q.shaped)
+store_unique h keys values j (Err e) (Ok b) p q = absurd (never q.shaped p.shaped)
+store_unique h keys values j (Err e) (Err d) p q = ap (λ (x : Refusal). Err x) (q.refusal ∙ sym p.refusal)
 
 pub empty_unique : (a b : Head) → a ≡ empty_head → b ≡ empty_head → a ≡ b
 empty_unique a b p q = p ∙ sym q

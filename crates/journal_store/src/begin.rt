@@ -44,7 +44,13 @@ fn decide(store: Store<'_>, t: u64) -> Result<u32, Refusal>
 }
 
 // Begins a transaction that reads as of t, and answers its number.
-pub fn begin(h: Head, keys: &[u32], values: &[u32], journal: &mut [u8], t: u64) -> Outcome<Head, u32>
+pub fn begin(
+    h: Head,
+    keys: &[u32],
+    values: &[u32],
+    journal: &mut [u8],
+    t: u64,
+) -> Outcome<Head, u32>
     ensures { Wrote (Begin t) h keys.now values.now journal.old (of_begun result.answer) result.head journal.new }
 {
     let answer = Store::new(h, keys, values, journal).and_then(|store| decide(store, t));

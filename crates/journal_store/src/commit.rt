@@ -32,14 +32,27 @@ fn decide(store: Store<'_>, n: u32, t: u64) -> Result<(), Refusal>
     if t <= last {
         return Err(Refusal::NotLater);
     }
-    if conflict::conflict(store.records.bytes, store.records.used, n, trace.snapshot, last) {
+    if conflict::conflict(
+        store.records.bytes,
+        store.records.used,
+        n,
+        trace.snapshot,
+        last,
+    ) {
         return Err(Refusal::Conflict);
     }
     store.with_room(1)
 }
 
 // Commits a running transaction at t.
-pub fn commit(h: Head, keys: &[u32], values: &[u32], journal: &mut [u8], n: u32, t: u64) -> Outcome<Head, ()>
+pub fn commit(
+    h: Head,
+    keys: &[u32],
+    values: &[u32],
+    journal: &mut [u8],
+    n: u32,
+    t: u64,
+) -> Outcome<Head, ()>
     ensures { Wrote (Commit n t) h keys.now values.now journal.old (of_done result.answer) result.head journal.new }
 {
     let answer = Store::new(h, keys, values, journal).and_then(|store| decide(store, n, t));

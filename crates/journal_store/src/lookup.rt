@@ -21,11 +21,18 @@ fn decide(store: Store<'_>, k: u32, t: u64) -> Result<Value, Refusal>
     if journal::times::is_future(store.records.bytes, store.records.used, store.low, t) {
         return Err(Refusal::Future);
     }
-    Ok(values::value::value_at(store.keys, store.values, store.rows, store.records.bytes, store.records.used, k, t))
+    Ok(values::value::value_at(store.base, store.records, k, t))
 }
 
 // The value of k at t.
-pub fn lookup(h: Head, keys: &[u32], values: &[u32], journal: &[u8], k: u32, t: u64) -> Result<Value, Refusal>
+pub fn lookup(
+    h: Head,
+    keys: &[u32],
+    values: &[u32],
+    journal: &[u8],
+    k: u32,
+    t: u64,
+) -> Result<Value, Refusal>
     ensures { of_got result ≡ shaped_reply h keys.now values.now journal.now (lookup_decided k t) }
 {
     Store::new(h, keys, values, journal).and_then(|store| decide(store, k, t))

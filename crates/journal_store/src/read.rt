@@ -19,11 +19,18 @@ fn decide(store: Store<'_>, n: u32, k: u32) -> Result<Value, Refusal>
     if k == 0 {
         return Err(Refusal::BadKey);
     }
-    Ok(values::value::read_in(store.keys, store.values, store.rows, store.records.bytes, store.records.used, n, trace.snapshot, k))
+    Ok(values::value::read_in(store.base, store.records, n, trace.snapshot, k))
 }
 
 // The value of k at the transaction's snapshot, then its own effects on it.
-pub fn read(h: Head, keys: &[u32], values: &[u32], journal: &[u8], n: u32, k: u32) -> Result<Value, Refusal>
+pub fn read(
+    h: Head,
+    keys: &[u32],
+    values: &[u32],
+    journal: &[u8],
+    n: u32,
+    k: u32,
+) -> Result<Value, Refusal>
     ensures { of_got result ≡ shaped_reply h keys.now values.now journal.now (read_decided n k) }
 {
     Store::new(h, keys, values, journal).and_then(|store| decide(store, n, k))

@@ -7,18 +7,16 @@ use answer::Refusal;
 use journal::Journal;
 use record::Records;
 use rules::Record;
+use values::base::BaseRows;
 
 #[derive(Clone, Copy)]
 pub struct Store<'a> {
     pub low: u64,
     pub floor: u32,
-    pub keys: &'a [u32],
-    pub values: &'a [u32],
-    pub rows: usize,
+    pub base: BaseRows<'a>,
     pub records: Records<'a>,
-    pub ghost few_rows: { rows ≤ most_rows },
-    pub ghost in_keys: { rows ≤ length keys.now },
-    pub ghost paired: { length keys.now ≡ length values.now },
+    pub ghost few_rows: { base.count ≤ most_rows },
+    pub ghost paired: { length base.keys.now ≡ length base.values.now },
     pub ghost few_records: { records.used ≤ most_records },
 }
 
@@ -28,20 +26,22 @@ impl<'a> Store<'a> {
     ghost use Rattle.journal_store.specs.Lent.{Opened, room_in};
 
     // Section 6, number 1: a store of bad shape is refused before anything of it is read.
-    pub fn new(h: Head, keys: &'a [u32], values: &'a [u32], journal: &'a [u8]) -> Result<Self, Refusal>
+    pub fn new(
+        h: Head,
+        keys: &'a [u32],
+        values: &'a [u32],
+        journal: &'a [u8],
+    ) -> Result<Self, Refusal>
         ensures { Opened h keys.entry.now values.entry.now journal.entry.now result }
     {
         if !crate::shaped(h, keys.len(), values.len(), journal.len()) {
             return Err(Refusal::BadShape);
         }
-        let records = Records::new(journal, h.journal.used);
         Ok(Store {
             low: h.low,
             floor: h.floor,
-            keys,
-            values,
-            rows: h.base.rows,
-            records,
+            base: BaseRows::new(keys, values, h.base.rows),
+            records: Records::new(journal, h.journal.used),
         })
     }
 

@@ -37,7 +37,9 @@ fn decide(store: Store<'_>, n: u32, k: u32, e: Effect) -> Result<(), Refusal>
     if !conflict::may_write(store.records.bytes, store.records.used, n, k) {
         return Err(Refusal::KeysFull);
     }
-    store.with_room(1 + journal::transactions::count_running(store.records.bytes, store.records.used))
+    store.with_room(
+        1 + journal::transactions::count_running(store.records.bytes, store.records.used),
+    )
 }
 
 // Notes an effect of a running transaction on a key.
