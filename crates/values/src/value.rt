@@ -81,7 +81,7 @@ fn settle(
     kinds: &mut [u8],
     amounts: &mut [u32],
 ) -> Settled
-    requires { (records.used ≤ most_records) × Aside transactions.old kinds.old amounts.old records.used }
+    requires { Aside transactions.old kinds.old amounts.old records.used }
     ensures { Settles start k t (records_of records.entry) transactions.new kinds.new amounts.new result }
 {
     let mut n = 0;
@@ -101,30 +101,15 @@ fn settle(
     Settled { value: v, count: n }
 }
 
-// The value of k at t; start is the value of its base row.
-pub fn value(records: Records<'_>, start: Value, k: u32, t: u64) -> Value
-    requires { records.used ≤ most_records }
+// The value of k at t out of at most N records.
+fn value_of<const N: usize>(records: Records<'_>, start: Value, k: u32, t: u64) -> Value
+    requires { (records.used ≤ N) × (N ≤ most_records) }
     ensures { result ≡ value_in start k t (records_of records.entry) }
 {
-    if records.used <= Journal::FEW {
-        let mut transactions = [0u32; Journal::FEW];
-        let mut kinds = [0u8; Journal::FEW];
-        let mut amounts = [0u32; Journal::FEW];
-        let s = settle(
-            records,
-            start,
-            k,
-            t,
-            &mut transactions,
-            &mut kinds,
-            &mut amounts,
-        );
-        return s.value;
-    }
-    let mut transactions = [0u32; Journal::RECORDS];
-    let mut kinds = [0u8; Journal::RECORDS];
-    let mut amounts = [0u32; Journal::RECORDS];
-    let s = settle(
+    let mut transactions = [0u32; N];
+    let mut kinds = [0u8; N];
+    let mut amounts = [0u32; N];
+    settle(
         records,
         start,
         k,
@@ -132,27 +117,46 @@ pub fn value(records: Records<'_>, start: Value, k: u32, t: u64) -> Value
         &mut transactions,
         &mut kinds,
         &mut amounts,
-    );
-    s.value
+    )
+    .value
 }
 
-// A read of k in transaction n, with three columns for the key's updates: its own are applied out of those kept.
-fn read_by(
+// The value of k at t; start is the value of its base row.
+pub fn value(records: Records<'_>, start: Value, k: u32, t: u64) -> Value
+    requires { records.used ≤ most_records }
+    ensures { result ≡ value_in start k t (records_of records.entry) }
+{
+    if records.used <= Journal::FEW {
+        value_of::<{ Journal::FEW }>(records, start, k, t)
+    } else {
+        value_of::<{ Journal::RECORDS }>(records, start, k, t)
+    }
+}
+
+// A read of k in transaction n out of at most N records: its own effects are applied out of those kept.
+fn read_of<const N: usize>(
     records: Records<'_>,
     start: Value,
     n: u32,
     snapshot: u64,
     k: u32,
-    transactions: &mut [u32],
-    kinds: &mut [u8],
-    amounts: &mut [u32],
 ) -> Value
-    requires { (records.used ≤ most_records) × Aside transactions.old kinds.old amounts.old records.used }
+    requires { (records.used ≤ N) × (N ≤ most_records) }
     ensures { result ≡ read_on start (records_of records.entry) n snapshot k }
 {
-    let s = settle(records, start, k, snapshot, transactions, kinds, amounts);
-    let v = s.value;
-    kept_effects(transactions, kinds, amounts, s.count, n, v)
+    let mut transactions = [0u32; N];
+    let mut kinds = [0u8; N];
+    let mut amounts = [0u32; N];
+    let s = settle(
+        records,
+        start,
+        k,
+        snapshot,
+        &mut transactions,
+        &mut kinds,
+        &mut amounts,
+    );
+    kept_effects(&transactions, &kinds, &amounts, s.count, n, s.value)
 }
 
 // A read of k in transaction n; start is the value of its base row.
@@ -161,33 +165,10 @@ fn read(records: Records<'_>, start: Value, n: u32, snapshot: u64, k: u32) -> Va
     ensures { result ≡ read_on start (records_of records.entry) n snapshot k }
 {
     if records.used <= Journal::FEW {
-        let mut transactions = [0u32; Journal::FEW];
-        let mut kinds = [0u8; Journal::FEW];
-        let mut amounts = [0u32; Journal::FEW];
-        return read_by(
-            records,
-            start,
-            n,
-            snapshot,
-            k,
-            &mut transactions,
-            &mut kinds,
-            &mut amounts,
-        );
+        read_of::<{ Journal::FEW }>(records, start, n, snapshot, k)
+    } else {
+        read_of::<{ Journal::RECORDS }>(records, start, n, snapshot, k)
     }
-    let mut transactions = [0u32; Journal::RECORDS];
-    let mut kinds = [0u8; Journal::RECORDS];
-    let mut amounts = [0u32; Journal::RECORDS];
-    read_by(
-        records,
-        start,
-        n,
-        snapshot,
-        k,
-        &mut transactions,
-        &mut kinds,
-        &mut amounts,
-    )
 }
 
 // The value of k's base row, or absent.

@@ -92,8 +92,8 @@ loop-i-preserved c =
           elim c.if-writes.branch [
             | then-writes w ↦ kept j a.start a.k a.t l.i _ e l.transactions l.kinds l.amounts l.n y.does _ _ _ _
                 w.transactions-is w.kinds-is w.amounts-is w.n-is
-                (omega (arith, y.few, y.transactions_room, c.requires.1.in_transactions)) (omega (arith, y.few, y.kinds_room, c.requires.1.in_kinds))
-                (omega (arith, y.few, y.amounts_room, c.requires.1.in_amounts)) (o ∙ w.if-writes.true)
+                (omega (arith, y.few, y.transactions_room, c.requires.in_transactions)) (omega (arith, y.few, y.kinds_room, c.requires.in_kinds))
+                (omega (arith, y.few, y.amounts_room, c.requires.in_amounts)) (o ∙ w.if-writes.true)
             | else-writes w ↦ passed j a.start a.k a.t l.i _ e l.transactions l.kinds l.amounts l.n y.does _ _ _ _
                 w.transactions-is w.kinds-is w.amounts-is w.n-is (o ∙ w.if-writes.false)
           ];
