@@ -19,7 +19,7 @@ use Rattle.compact.specs.Compact.{compacted}
 use Rattle.journal_store.specs.declared.Head.{Head}
 use Rattle.journal_store.specs.Shape.{is_shaped, room_of, meaning, row_room}
 use Rattle.journal_store.specs.Heads.{grown, checkpoint_head, recovered_head}
-use Rattle.journal_store.specs.CallContracts.{Decided, number, Told, Wrote, shaped_reply, list_decided, is_list_shaped, list_number, ListedBy, checkpoint_number, Checkpointed, is_recoverable, surviving, recover_reply, Recovered}
+use Rattle.journal_store.specs.CallContracts.{Decided, number, Told, Wrote, shaped_reply, list_decided, is_list_shaped, list_number, ListedBy, ListedOf, checkpoint_number, Checkpointed, is_recoverable, surviving, recover_reply, Recovered}
 
 -- an accepted call has the room that it needs
 pub room_left : (room : ℕ) (c : Call) (s : Store) → answer room c s ≡ 0 → length s.records + need c s ≤ room
@@ -95,24 +95,29 @@ module _ (h : Head) (keys values j : List ℕ) (t : ℕ) (listed contents : List
         values_column = after_refused BadShape (list_number h keys values j t (length listed) (length contents)) (row_values (list_of t s) ++ drop (length (list_of t s)) contents) contents q;
       }
 
-  module _ (shaped : is_list_shaped h (length keys) (length values) (length j) (length listed) (length contents) ≡ true) (a : Reply)
-      (d : a ≡ list_decided (length listed) t (meaning h keys values j)) where
-    list_counted : list_number h keys values j t (length listed) (length contents) ≡ a.number
-    list_counted = ap (λ (b : Bool). cond b (list_answer (length listed) t (meaning h keys values j)) 1) shaped ∙ sym (ap (λ (r : Reply). r.number) d)
+  -- what is answered of the meaning is what the call answers
+  pub listed_by : is_list_shaped h (length keys) (length values) (length j) (length listed) (length contents) ≡ true → (a : Reply) (listed' contents' : List ℕ)
+      → ListedOf (meaning h keys values j) t listed contents a listed' contents' → ListedBy h keys values j t listed contents a listed' contents'
+  listed_by e a listed' contents' w =
+      let s = meaning h keys values j in
+      let n : list_number h keys values j t (length listed) (length contents) ≡ list_answer (length listed) t s =
+          ap (λ (b : Bool). cond b (list_answer (length listed) t s) 1) e in
+      let m : a.number ≡ list_answer (length listed) t s = ap (λ (r : Reply). r.number) w.reply in
+      record {
+        reply = rw n w.reply;
+        keys_column = rw (n, ← m) w.keys_column;
+        values_column = rw (n, ← m) w.values_column;
+      }
 
-    replied : a ≡ told (list_number h keys values j t (length listed) (length contents)) (Some (length (list_of t (meaning h keys values j))))
-    replied = d ∙ ap (λ (n : ℕ). told n (Some (length (list_of t (meaning h keys values j))))) (sym (ap (λ (r : Reply). r.number) d) ∙ sym list_counted)
+module _ {s : Store} {t : ℕ} {listed contents : List ℕ} where
+  -- a refused list leaves the columns as they were
+  pub list_refused : (x : Refusal) → refused x ≡ list_decided (length listed) t s → ListedOf s t listed contents (refused x) listed contents
+  list_refused x e = record { reply = e; keys_column = after_refused x _ _ listed refl; values_column = after_refused x _ _ contents refl }
 
-    pub list_filled : (listed' contents' : List ℕ) → eqb a.number 0 ≡ true → Filled (list_of t (meaning h keys values j)) listed contents listed' contents'
-        → ListedBy h keys values j t listed contents a listed' contents'
-    list_filled listed' contents' e f =
-        let z : eqb (list_number h keys values j t (length listed) (length contents)) 0 ≡ true = ap (λ (n : ℕ). eqb n 0) list_counted ∙ e in
-        record { reply = replied; keys_column = rw z f.keys_column; values_column = rw z f.values_column }
-
-    pub list_refused : eqb a.number 0 ≡ false → ListedBy h keys values j t listed contents a listed contents
-    list_refused e =
-        let z : eqb (list_number h keys values j t (length listed) (length contents)) 0 ≡ false = ap (λ (n : ℕ). eqb n 0) list_counted ∙ e in
-        record { reply = replied; keys_column = rw z; values_column = rw z }
+  -- an accepted one has its rows at their front
+  pub list_filled : (n : ℕ) {listed' contents' : List ℕ} → accepted (Some n) ≡ list_decided (length listed) t s
+      → Filled (list_of t s) listed contents listed' contents' → ListedOf s t listed contents (accepted (Some n)) listed' contents'
+  list_filled n e f = record { reply = e; keys_column = f.keys_column; values_column = f.values_column }
 
 module _ (t : ℕ) (h : Head) (keys values j : List ℕ) where
   -- a call that gets a refusal's number changes nothing
