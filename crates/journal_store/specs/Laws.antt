@@ -101,7 +101,7 @@ module _ (h : Head) (keys values j : List ℕ) (t : ℕ) (listed contents : List
   listed_by e a listed' contents' w =
       let s = meaning h keys values j in
       let n : list_number h keys values j t (length listed) (length contents) ≡ list_answer (length listed) t s =
-          ap (λ (b : Bool). cond b (list_answer (length listed) t s) 1) e in
+      ap (λ (b : Bool). cond b (list_answer (length listed) t s) 1) e in
       let m : a.number ≡ list_answer (length listed) t s = ap (λ (r : Reply). r.number) w.reply in
       record {
         reply = rw n w.reply;

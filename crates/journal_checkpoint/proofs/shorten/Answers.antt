@@ -17,10 +17,10 @@ returns c =
     checkpoint_written a.t a.h a.keys.now a.values.now a.journal.now w.shaped (accepted None)
     (c.in_ok-decide.ensures ∙ ap (λ (s : Store). told (checkpoint_refusal a.t s) None) (made_meant w)) refl c.in_ok-rows.rows f.count _ _ _ _ f.fits
     (λ i.
-      record {
-        low = a.t;
-        floor = (c.next-floor.ensures ∙ (λ i. next a.h.floor (records_in (w.used i) (w.cells i)))) i;
-        base = record { rows = f.count i };
-        journal = record { used = k.count i };
-      })
+    record {
+      low = a.t;
+      floor = (c.next-floor.ensures ∙ (λ i. next a.h.floor (records_in (w.used i) (w.cells i)))) i;
+      base = record { rows = f.count i };
+      journal = record { used = k.count i };
+    })
     f.filled k.cells
