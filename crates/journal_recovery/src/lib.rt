@@ -1,29 +1,27 @@
 // The journal store's recovery: the store as its surviving bytes tell it, after a restart. Refusals 1, 13.
 #![tactic(auto)]
 
-ghost use Rattle.std.specs.Prelude.{◌≡◌, ◌≤◌, length, take};
-ghost use Rattle.answer.specs.Reply.{of_done};
+ghost use Rattle.std.specs.Prelude.{◌≡◌, None};
+ghost use Rattle.std.specs.Result.{result_unwrap_or};
+ghost use Rattle.answer.specs.Reply.{of_done, of_result};
 ghost use Rattle.journal_store.specs.CallContracts.{rising_keys, is_recoverable, Recovered};
 
 use answer::{Outcome, Refusal};
 use journal::{Base, Journal};
 use journal_store::Head;
+use record::Records;
 use rules::Record;
 
-// Whether the first rows of a column strictly rise from 1.
-fn rises(keys: &[u32], rows: usize) -> bool
-    requires { rows ≤ length keys.now }
-    ensures { result ≡ rising_keys 0 (take rows keys.now) }
+// Whether keys strictly rise from 1.
+fn rises(keys: &[u32]) -> bool
+    ensures { result ≡ rising_keys 0 keys.now }
 {
     let mut before = 0;
-    let mut i = 0;
-    while i < rows {
-        let key = keys[i];
-        if key <= before {
+    for key in keys {
+        if *key <= before {
             return false;
         }
-        before = key;
-        i += 1;
+        before = *key;
     }
     true
 }
@@ -33,25 +31,40 @@ fn shaped(h: Head, keys: &[u32], values: usize, bytes: usize, survived: usize) -
     ensures { result ≡ is_recoverable h keys.now values bytes survived }
 {
     let rows = h.base.rows;
-    if rows > Base::ROWS {
-        return false;
+    rows <= Base::ROWS
+        && rows <= keys.len()
+        && keys.len() == values
+        && survived <= Journal::RECORDS * Record::BYTES
+        && survived <= bytes
+        && h.floor != 0
+        && rises(&keys[..rows])
+}
+
+// The head of the recovered store, or why it stays as it was.
+fn restore(
+    h: Head,
+    keys: &[u32],
+    values: &[u32],
+    journal: &mut [u8],
+    survived: usize,
+) -> Result<Head, Refusal>
+    ensures { Recovered h keys.now values.now journal.old survived (of_result (λ _. None) result) (result_unwrap_or result h) journal.new }
+{
+    if !shaped(h, keys, values.len(), journal.len(), survived) {
+        return Err(Refusal::BadShape);
     }
-    if rows > keys.len() {
-        return false;
+    let used = survived / Record::BYTES;
+    let records = Records::new(journal, used);
+    if let Some(place) = walk::walk(records.bytes, records.used, h.low) {
+        return Err(Refusal::BadRecord(place));
     }
-    if keys.len() != values {
-        return false;
-    }
-    if survived > Journal::RECORDS * Record::BYTES {
-        return false;
-    }
-    if survived > bytes {
-        return false;
-    }
-    if h.floor == 0 {
-        return false;
-    }
-    rises(keys, rows)
+    let floor = journal::times::next(records.bytes, records.used, h.floor);
+    let kept = compact::keep_done(journal, used, h.low, survived);
+    Ok(Head {
+        floor,
+        journal: Journal { used: kept },
+        ..h
+    })
 }
 
 // Takes the surviving bytes for the journal: transactions without a commit are dropped, the rest moves up.
@@ -64,32 +77,14 @@ pub fn recover(
 ) -> Outcome<Head, ()>
     ensures { Recovered h keys.now values.now journal.old survived (of_done result.answer) result.head journal.new }
 {
-    if !shaped(h, keys, values.len(), journal.len(), survived) {
-        return Outcome {
-            head: h,
-            answer: Err(Refusal::BadShape),
-        };
-    }
-    let used = survived / Record::BYTES;
-    let walked = walk::walk(journal, used, h.low);
-    match walked {
-        Some(place) => Outcome {
-            head: h,
-            answer: Err(Refusal::BadRecord(place)),
+    match restore(h, keys, values, journal, survived) {
+        Ok(head) => Outcome {
+            head,
+            answer: Ok(()),
         },
-        None => {
-            let floor = journal::times::next(journal, used, h.floor);
-            let kept = compact::keep_done(journal, used, h.low, survived);
-            let base = h.base;
-            Outcome {
-                head: Head {
-                    low: h.low,
-                    floor,
-                    base,
-                    journal: Journal { used: kept },
-                },
-                answer: Ok(()),
-            }
-        }
+        Err(why) => Outcome {
+            head: h,
+            answer: Err(why),
+        },
     }
 }

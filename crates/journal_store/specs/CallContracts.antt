@@ -1,5 +1,5 @@
 -- The contracts of the calls: the answer, the head and every lent cell, for a store of any shape. Assumes nothing.
-use Rattle.std.specs.Prelude.{◌≡◌, Bool, true, cond, ◌&&◌, not, List, ◌++◌, [], ◌∷◌, ℕ, ◌*◌, ◌≤◌, ◌/◌, ◌<◌, eqb, ltb, leb, length, drop, take, Some, None, Option}
+use Rattle.std.specs.Prelude.{◌≡◌, Bool, true, cond, ◌&&◌, not, List, ◌++◌, [], ◌∷◌, ℕ, ◌*◌, ◌≤◌, ◌/◌, ◌<◌, eqb, ltb, leb, length, drop, take, Some, None, Option, Result, MatchResult}
 use Rattle.rules.specs.declared.Record.{Record}
 use Rattle.rules.specs.Kinds.{record_size}
 use Rattle.rules.specs.Calls.{Store, Call, answer, record_of, gives, value_of, read_of, read_refusal, lookup_refusal, list_of, list_answer, checkpoint_answer, kept_of}
@@ -9,17 +9,13 @@ use Rattle.rules.specs.Values.{Row}
 use Rattle.rules.specs.Limits.{most_records, most_rows}
 use Rattle.rules.specs.Recovery.{walk, survivors}
 use Rattle.record.specs.Bytes.{appended, records_in}
-use Rattle.answer.specs.declared.Refusal.TheVariants.{BadShape}
+use Rattle.answer.specs.declared.Refusal.{Refusal}
+use Rattle.answer.specs.declared.Refusal.TheVariants.{BadShape, NoRoom}
 use Rattle.answer.specs.Reply.{Reply, refused, told, after, accepted}
 use Rattle.compact.specs.Compact.{compacted}
 use Rattle.journal_store.specs.declared.Head.{Head}
 use Rattle.journal_store.specs.Shape.{is_shaped, room_of, meaning, row_room}
 use Rattle.journal_store.specs.Heads.{grown, checkpoint_head, recovered_head}
-
--- an accepted record is written behind the used ones and counted; otherwise nothing changes
-pub record Put (h : Head) (j : List ℕ) (accepted : Bool) (r : Record) (head : Head) (exit : List ℕ) : Type 0 where
-  pub headed : head ≡ cond accepted (grown h) h
-  pub cells : exit ≡ cond accepted (appended j h.journal.used r) j
 
 -- what a store of good shape with so much room answers
 pub record Decided (c : Call) (room : ℕ) (s : Store) (a : Reply) : Type 0 where
@@ -29,6 +25,10 @@ pub record Decided (c : Call) (room : ℕ) (s : Store) (a : Reply) : Type 0 wher
 abbrev pub number : Call → Head → List ℕ → List ℕ → List ℕ → ℕ
 number c h keys values j =
     cond (is_shaped h (length keys) (length values) (length j)) (answer (room_of (length j)) c (meaning h keys values j)) 1
+
+-- what a call answers to a store of any shape
+pub record Told (c : Call) (h : Head) (keys values j : List ℕ) (a : Reply) : Type 0 where
+  pub reply : a ≡ told (number c h keys values j) (gives c (meaning h keys values j))
 
 -- the answer; the head and the journal's bytes with one record more where the call is accepted, and as they were where it is refused
 pub record Wrote (c : Call) (h : Head) (keys values j : List ℕ) (a : Reply) (head : Head) (exit : List ℕ) : Type 0 where
@@ -74,6 +74,12 @@ pub record ListedBy (h : Head) (keys values j : List ℕ) (t : ℕ) (listed cont
       ≡ after (list_number h keys values j t (length listed) (length contents))
       (row_values (list_of t (meaning h keys values j)) ++ drop (length (list_of t (meaning h keys values j))) contents) contents
 
+-- the same of a store of good shape, whatever it is made from
+pub record ListedOf (s : Store) (t : ℕ) (listed contents : List ℕ) (a : Reply) (listed' contents' : List ℕ) : Type 0 where
+  pub reply : a ≡ list_decided (length listed) t s
+  pub keys_column : listed' ≡ after a.number (row_keys (list_of t s) ++ drop (length (list_of t s)) listed) listed
+  pub values_column : contents' ≡ after a.number (row_values (list_of t s) ++ drop (length (list_of t s)) contents) contents
+
 -- the number that checkpoint gets
 abbrev pub checkpoint_number : ℕ → Head → List ℕ → List ℕ → List ℕ → ℕ
 checkpoint_number t h keys values j =
@@ -95,11 +101,22 @@ pub record Checkpointed (t : ℕ) (h : Head) (keys values j : List ℕ) (a : Rep
   pub cells :
       exit ≡ after (checkpoint_number t h keys values j) (compacted (kept_of t (meaning h keys values j)) (h.journal.used * record_size) j) j
 
--- how many rows a list has; the columns with them at their front where they fit, else as they were
-pub record Settled (room : ℕ) (rows : List Row) (keys values : List ℕ) (n : ℕ) (keys' values' : List ℕ) : Type 0 where
+-- a list's rows at the front of two columns, and how many they are
+pub record Fits (room : ℕ) (rows : List Row) (keys values keys' values' : List ℕ) (n : ℕ) : Type 0 where
   pub count : n ≡ length rows
-  pub filled : length rows ≤ room → Filled rows keys values keys' values'
-  pub left : room < length rows → (keys' ≡ keys) × (values' ≡ values)
+  pub fits : n ≤ room
+  pub filled : Filled rows keys values keys' values'
+
+-- a list that has more rows than there is room for: refused, and the columns are as they were
+pub record TooLong (room : ℕ) (rows : List Row) (keys values keys' values' : List ℕ) (e : Refusal) : Type 0 where
+  pub long : room < length rows
+  pub refusal : e ≡ NoRoom
+  pub keys_left : keys' ≡ keys
+  pub values_left : values' ≡ values
+
+-- the one or the other
+abbrev pub Settled : ℕ → List Row → List ℕ → List ℕ → Result ℕ Refusal → List ℕ → List ℕ → Type 0
+Settled room rows keys values r keys' values' = MatchResult r (Fits room rows keys values keys' values') (TooLong room rows keys values keys' values')
 
 -- keys strictly rise, all above m
 abbrev pub rising_keys : ℕ → List ℕ → Bool

@@ -1,8 +1,7 @@
 -- How a call's parts make its contract: what was decided on the meaning, then done to the cells if it was accepted. Assumes nothing.
 use Rattle.std.specs.Prelude.{◌≡◌, refl, Bool, true, false, cond, List, ◌++◌, ℕ, ◌+◌, ◌*◌, ◌≤◌, ◌<◌, eqb, length, drop, Some, None, Option}
-use Rattle.std.proofs.Common.{sym, ap, ◌∙◌, arith, eqb-true, le-leb}
+use Rattle.std.proofs.Common.{sym, ap, ◌∙◌, arith, le-leb}
 use Rattle.std.proofs.lemmas.Bool.{lt-leb}
-use Rattle.rules.specs.declared.Record.{Record}
 use Rattle.rules.specs.Bools.{split}
 use Rattle.rules.specs.Kinds.{record_size}
 use Rattle.rules.specs.Passed.{fitting}
@@ -11,6 +10,7 @@ use Rattle.rules.specs.Lists.{row_keys}
 use Rattle.rules.specs.Columns.{row_values, Filled}
 use Rattle.rules.specs.Recovery.{walk, survivors}
 use Rattle.record.specs.Bytes.{appended}
+use Rattle.record.specs.Laws.{length_records}
 use Rattle.answer.specs.declared.Refusal.TheVariants.{BadShape, NoRoom}
 use Rattle.answer.specs.Reply.{Reply, refused, told, accepted, number_of, place_of}
 use Rattle.answer.specs.Laws.{after_refused, refused_some}
@@ -19,7 +19,7 @@ use Rattle.compact.specs.Compact.{compacted}
 use Rattle.journal_store.specs.declared.Head.{Head}
 use Rattle.journal_store.specs.Shape.{is_shaped, room_of, meaning, row_room}
 use Rattle.journal_store.specs.Heads.{grown, checkpoint_head, recovered_head}
-use Rattle.journal_store.specs.CallContracts.{Put, Decided, number, Wrote, shaped_reply, list_decided, is_list_shaped, list_number, ListedBy, checkpoint_number, Checkpointed, is_recoverable, surviving, recover_reply, Recovered}
+use Rattle.journal_store.specs.CallContracts.{Decided, number, Told, Wrote, shaped_reply, list_decided, is_list_shaped, list_number, ListedBy, ListedOf, checkpoint_number, Checkpointed, is_recoverable, surviving, recover_reply, Recovered}
 
 -- an accepted call has the room that it needs
 pub room_left : (room : ℕ) (c : Call) (s : Store) → answer room c s ≡ 0 → length s.records + need c s ≤ room
@@ -31,48 +31,51 @@ need_some (Update n k e) s = omega arith
 need_some (Abort n) s = omega arith
 need_some (Commit n t) s = omega arith
 
--- an accepted call has room for its record
-pub has_room : {c : Call} {room used : ℕ} {s : Store} {a : Reply} {accepted : Bool} → Decided c room s a → accepted ≡ eqb a.number 0
-    → length s.records ≡ used → accepted ≡ true → used + 1 ≤ room
-has_room {c} {room} {used} {s} {a} d y u e =
-    let z : answer room c s ≡ 0 = eqb-true (answer room c s) 0 (sym (ap (λ (r : Reply). eqb r.number 0) d.reply) ∙ sym y ∙ e) in
-    omega (arith, room_left room c s z, need_some c s)
-
 -- the number of a call, by the shape test
 counted : (c : Call) (h : Head) (keys values j : List ℕ) (b : Bool) → is_shaped h (length keys) (length values) (length j) ≡ b
     → number c h keys values j ≡ cond b (answer (room_of (length j)) c (meaning h keys values j)) 1
 counted c h keys values j b e = ap (λ (x : Bool). cond x (answer (room_of (length j)) c (meaning h keys values j)) 1) e
 
 module _ {c : Call} {h : Head} {keys values j : List ℕ} where
-  -- a store of bad shape: refused, and nothing changes
-  pub bad_shape : is_shaped h (length keys) (length values) (length j) ≡ false → Wrote c h keys values j (refused BadShape) h j
-  bad_shape e =
-      let q = counted c h keys values j false e in
-      record {
-        reply = sym (ap (λ (n : ℕ). told n (gives c (meaning h keys values j))) q);
-        headed = after_refused BadShape (number c h keys values j) (grown h) h q;
-        cells = after_refused BadShape (number c h keys values j) (appended j h.journal.used (record_of c (meaning h keys values j))) j q;
-      }
+  -- what is told of a store of bad shape
+  pub told_bad : is_shaped h (length keys) (length values) (length j) ≡ false → Told c h keys values j (refused BadShape)
+  told_bad e = record { reply = sym (ap (λ (n : ℕ). told n (gives c (meaning h keys values j))) (counted c h keys values j false e)) }
 
-  -- what was decided and put is what the call writes
-  module _ {a : Reply} {accepted : Bool} {r : Record} {head : Head} {exit : List ℕ} where
-    pub wrote : is_shaped h (length keys) (length values) (length j) ≡ true → Decided c (room_of (length j)) (meaning h keys values j) a
-        → accepted ≡ eqb a.number 0 → (accepted ≡ true → r ≡ record_of c (meaning h keys values j)) → Put h j accepted r head exit
-        → Wrote c h keys values j a head exit
-    wrote shaped d y rec p =
-        let q = counted c h keys values j true shaped in
-        let accepts : accepted ≡ eqb (number c h keys values j) 0 = y ∙ ap (λ (x : Reply). eqb x.number 0) d.reply ∙ ap (λ (n : ℕ). eqb n 0) (sym q) in
-        record {
-          reply = d.reply ∙ ap (λ (n : ℕ). told n (gives c (meaning h keys values j))) (sym q);
-          headed = p.headed ∙ ap (λ (b : Bool). cond b (grown h) h) accepts;
-          cells =
-              p.cells
-              ∙ split accepted
-              (λ e. ap (λ (b : Bool). cond b (appended j h.journal.used r) j) e ∙ ap (appended j h.journal.used) (rec e)
-              ∙ ap (λ (b : Bool). cond b (appended j h.journal.used (record_of c (meaning h keys values j))) j) (sym e ∙ accepts))
-              (λ e. ap (λ (b : Bool). cond b (appended j h.journal.used r) j) e
-              ∙ ap (λ (b : Bool). cond b (appended j h.journal.used (record_of c (meaning h keys values j))) j) (sym e ∙ accepts));
-        }
+  module _ {a : Reply} where
+    -- and of one of good shape
+    pub told_good : is_shaped h (length keys) (length values) (length j) ≡ true → Decided c (room_of (length j)) (meaning h keys values j) a → Told c h keys values j a
+    told_good e d =
+        record { reply = d.reply ∙ ap (λ (n : ℕ). told n (gives c (meaning h keys values j))) (sym (counted c h keys values j true e)) }
+
+    module _ (w : Told c h keys values j a) where
+      told_number : a.number ≡ number c h keys values j
+      told_number = ap (λ (r : Reply). r.number) w.reply
+
+      -- an accepted call has room for its record
+      pub has_room : a.number ≡ 0 → h.journal.used + 1 ≤ room_of (length j)
+      has_room z =
+          split (is_shaped h (length keys) (length values) (length j))
+          (λ e.
+          let q : answer (room_of (length j)) c (meaning h keys values j) ≡ 0 = sym (counted c h keys values j true e) ∙ sym told_number ∙ z in
+          omega (arith, room_left (room_of (length j)) c (meaning h keys values j) q, need_some c (meaning h keys values j), length_records h.journal.used j))
+          (λ e. let q : ◌≡◌ {A = ℕ} 1 0 = sym (counted c h keys values j false e) ∙ sym told_number ∙ z in absurd (omega (arith, q)))
+
+      -- what it gives
+      pub given : a.number ≡ 0 → a.value ≡ gives c (meaning h keys values j)
+      given z = ap (λ (r : Reply). r.value) w.reply ∙ ap (λ (n : ℕ). cond (eqb n 0) (gives c (meaning h keys values j)) None) (sym told_number ∙ z)
+
+      -- a refused call changes nothing
+      pub unwritten : eqb a.number 0 ≡ false → Wrote c h keys values j a h j
+      unwritten z =
+          let e : eqb (number c h keys values j) 0 ≡ false = ap (λ (n : ℕ). eqb n 0) (sym told_number) ∙ z in
+          record { reply = w.reply; headed = rw e; cells = rw e }
+
+      -- an accepted one writes its record
+      pub wrote : a.number ≡ 0 → {head : Head} {exit : List ℕ} → head ≡ grown h
+          → exit ≡ appended j h.journal.used (record_of c (meaning h keys values j)) → Wrote c h keys values j a head exit
+      wrote z p q =
+          let e : number c h keys values j ≡ 0 = sym told_number ∙ z in
+          record { reply = w.reply; headed = rw e p; cells = rw e q }
 
 -- what a store of good shape answers
 pub reply_good : (h : Head) (keys values j : List ℕ) (decided : Store → Reply) (r : Reply) → is_shaped h (length keys) (length values) (length j) ≡ true
@@ -92,24 +95,29 @@ module _ (h : Head) (keys values j : List ℕ) (t : ℕ) (listed contents : List
         values_column = after_refused BadShape (list_number h keys values j t (length listed) (length contents)) (row_values (list_of t s) ++ drop (length (list_of t s)) contents) contents q;
       }
 
-  module _ (shaped : is_list_shaped h (length keys) (length values) (length j) (length listed) (length contents) ≡ true) (a : Reply)
-      (d : a ≡ list_decided (length listed) t (meaning h keys values j)) where
-    list_counted : list_number h keys values j t (length listed) (length contents) ≡ a.number
-    list_counted = ap (λ (b : Bool). cond b (list_answer (length listed) t (meaning h keys values j)) 1) shaped ∙ sym (ap (λ (r : Reply). r.number) d)
+  -- what is answered of the meaning is what the call answers
+  pub listed_by : is_list_shaped h (length keys) (length values) (length j) (length listed) (length contents) ≡ true → (a : Reply) (listed' contents' : List ℕ)
+      → ListedOf (meaning h keys values j) t listed contents a listed' contents' → ListedBy h keys values j t listed contents a listed' contents'
+  listed_by e a listed' contents' w =
+      let s = meaning h keys values j in
+      let n : list_number h keys values j t (length listed) (length contents) ≡ list_answer (length listed) t s =
+      ap (λ (b : Bool). cond b (list_answer (length listed) t s) 1) e in
+      let m : a.number ≡ list_answer (length listed) t s = ap (λ (r : Reply). r.number) w.reply in
+      record {
+        reply = rw n w.reply;
+        keys_column = rw (n, ← m) w.keys_column;
+        values_column = rw (n, ← m) w.values_column;
+      }
 
-    replied : a ≡ told (list_number h keys values j t (length listed) (length contents)) (Some (length (list_of t (meaning h keys values j))))
-    replied = d ∙ ap (λ (n : ℕ). told n (Some (length (list_of t (meaning h keys values j))))) (sym (ap (λ (r : Reply). r.number) d) ∙ sym list_counted)
+module _ {s : Store} {t : ℕ} {listed contents : List ℕ} where
+  -- a refused list leaves the columns as they were
+  pub list_refused : (x : Refusal) → refused x ≡ list_decided (length listed) t s → ListedOf s t listed contents (refused x) listed contents
+  list_refused x e = record { reply = e; keys_column = after_refused x _ _ listed refl; values_column = after_refused x _ _ contents refl }
 
-    pub list_filled : (listed' contents' : List ℕ) → eqb a.number 0 ≡ true → Filled (list_of t (meaning h keys values j)) listed contents listed' contents'
-        → ListedBy h keys values j t listed contents a listed' contents'
-    list_filled listed' contents' e f =
-        let z : eqb (list_number h keys values j t (length listed) (length contents)) 0 ≡ true = ap (λ (n : ℕ). eqb n 0) list_counted ∙ e in
-        record { reply = replied; keys_column = rw z f.keys_column; values_column = rw z f.values_column }
-
-    pub list_refused : eqb a.number 0 ≡ false → ListedBy h keys values j t listed contents a listed contents
-    list_refused e =
-        let z : eqb (list_number h keys values j t (length listed) (length contents)) 0 ≡ false = ap (λ (n : ℕ). eqb n 0) list_counted ∙ e in
-        record { reply = replied; keys_column = rw z; values_column = rw z }
+  -- an accepted one has its rows at their front
+  pub list_filled : (n : ℕ) {listed' contents' : List ℕ} → accepted (Some n) ≡ list_decided (length listed) t s
+      → Filled (list_of t s) listed contents listed' contents' → ListedOf s t listed contents (accepted (Some n)) listed' contents'
+  list_filled n e f = record { reply = e; keys_column = f.keys_column; values_column = f.values_column }
 
 module _ (t : ℕ) (h : Head) (keys values j : List ℕ) where
   -- a call that gets a refusal's number changes nothing

@@ -6,7 +6,9 @@ use Rattle.rules.specs.Limits.{most_running, numbers_end}
 use Rattle.rules.specs.declared.Effect.{Effect}
 use Rattle.rules.specs.Calls.{Store, Call, Begin, Update, Abort, Commit, refusal, need, with_room, answer, gives, last_of, next_of, running_of, runs_in, may_write_in, conflict_in, value_of, read_of, list_of, list_answer, checkpoint_refusal, held_in}
 use Rattle.rules.specs.Value.{Value}
-use Rattle.answer.specs.Reply.{Reply, accepted, told}
+use Rattle.answer.specs.declared.Refusal.{Refusal}
+use Rattle.answer.specs.Reply.{Reply, refused, accepted, told, number_of}
+use Rattle.answer.specs.Laws.{refused_some}
 use Rattle.journal_store.specs.CallContracts.{Decided, read_decided, lookup_decided, list_decided}
 
 -- a begin that no test before the room refuses
@@ -41,11 +43,15 @@ module _ {room : ℕ} {s : Store} where
           begin_numbers h = say (Begin t) 7 (rw (le-ltb t s.low a, b, ← m, lt-leb most_running r d, ← g, le-leb numbers_end n h))
 
           module _ (h : n < numbers_end) {used : ℕ} (u : length s.records ≡ used) where
-            pub begin_room : room < used + (2 + r) → Decided (Begin t) room s (told 12 (gives (Begin t) s))
-            begin_room i = fits (Begin t) (begin_passes s t a b r m d n g h) u (rw (← m, lt-leb (used + (2 + r)) room i))
+            pub begin_room : (x : Refusal) → refused x ≡ told (with_room 0 (used + (2 + r)) room) None → Decided (Begin t) room s (refused x)
+            begin_room x i =
+                let q : with_room 0 (used + (2 + r)) room ≡ number_of x = sym (ap (λ (a : Reply). a.number) i) in
+                fits (Begin t) (begin_passes s t a b r m d n g h) u (i ∙ rw (← m, q, refused_some x))
 
-            pub begin_begun : used + (2 + r) ≤ room → Decided (Begin t) room s (accepted (Some n))
-            begin_begun i = fits (Begin t) (begin_passes s t a b r m d n g h) u (rw (← m, le-leb (used + (2 + r)) room i, g))
+            pub begin_begun : accepted None ≡ told (with_room 0 (used + (2 + r)) room) None → Decided (Begin t) room s (accepted (Some n))
+            begin_begun i =
+                let q : with_room 0 (used + (2 + r)) room ≡ 0 = sym (ap (λ (a : Reply). a.number) i) in
+                fits (Begin t) (begin_passes s t a b r m d n g h) u (rw (← m, q, g))
 
   module _ {n : ℕ} where
     module _ (f : runs_in n s ≡ false) where

@@ -2,15 +2,12 @@
 // the same shape test; it answers for all inputs and asks nothing of its caller.
 #![tactic(auto)]
 
-ghost use Rattle.std.specs.Prelude.{◌≡◌, true, ◌+◌, ◌≤◌, length};
+ghost use Rattle.std.specs.Prelude.{◌≡◌, ◌+◌, ◌≤◌, length};
 ghost use Rattle.rules.specs.Limits.{most_records};
-ghost use Rattle.rules.specs.Calls.{with_room};
-ghost use Rattle.answer.specs.Reply.{of_done, told};
+ghost use Rattle.record.specs.Bytes.{appended};
 ghost use Rattle.journal_store.specs.Shape.{empty_head, is_shaped, room_of};
 ghost use Rattle.journal_store.specs.Heads.{grown};
-ghost use Rattle.journal_store.specs.CallContracts.{Put};
 
-use answer::Refusal;
 use journal::{Base, Journal};
 use rules::Record;
 
@@ -19,7 +16,10 @@ pub mod begin;
 pub mod commit;
 pub mod lookup;
 pub mod read;
+pub mod store;
 pub mod update;
+
+pub use store::Store;
 
 // The journal head: low, floor, how many base rows and how many journal records are used.
 #[repr(C)]
@@ -49,13 +49,11 @@ impl Head {
         requires { self.journal.used ≤ most_records }
         ensures { result ≡ grown self }
     {
-        let used = self.journal.used;
-        let base = self.base;
         Head {
-            low: self.low,
-            floor: self.floor,
-            base: base,
-            journal: Journal { used: used + 1 },
+            journal: Journal {
+                used: self.journal.used + 1,
+            },
+            ..self
         }
     }
 }
@@ -66,54 +64,33 @@ pub fn shaped(h: Head, keys: usize, values: usize, bytes: usize) -> bool
 {
     let rows = h.base.rows;
     let used = h.journal.used;
-    if rows > Base::ROWS {
-        return false;
-    }
-    if rows > keys {
-        return false;
-    }
-    if keys != values {
-        return false;
-    }
-    if used > Journal::RECORDS {
-        return false;
-    }
-    if used > bytes / Record::BYTES {
-        return false;
-    }
-    h.floor != 0
+    rows <= Base::ROWS
+        && rows <= keys
+        && keys == values
+        && used <= Journal::RECORDS
+        && used <= bytes / Record::BYTES
+        && h.floor != 0
 }
 
-// How many records the lent bytes have room for, at most the limit.
-fn room(bytes: usize) -> usize
-    ensures { result ≡ room_of bytes }
+// A record of a transaction with a kind; key, value and time are 0.
+fn blank(kind: u8, n: u32) -> Record
+    ensures { result ≡ record { kind = kind; zeros = 0; transaction = n; key = 0; value = 0; time = 0 } }
 {
-    let records = bytes / Record::BYTES;
-    if Journal::RECORDS < records {
-        return Journal::RECORDS;
+    Record {
+        kind,
+        zeros: 0,
+        transaction: n,
+        key: 0,
+        value: 0,
+        time: 0,
     }
-    records
 }
 
-// The last test of update, abort and commit: so many records fit.
-fn with_room(bytes: usize, wanted: usize) -> Result<(), Refusal>
-    ensures { of_done result ≡ told (with_room 0 wanted (room_of bytes)) Absent }
+// The record of an accepted call goes into the unused end of the journal.
+fn put(h: Head, journal: &mut [u8], r: Record) -> Head
+    requires { h.journal.used + 1 ≤ room_of (length journal.old) }
+    ensures { (result ≡ grown h) × (journal.new ≡ appended journal.old h.journal.used r) }
 {
-    if room(bytes) < wanted {
-        return Err(Refusal::NoRoom);
-    }
-    Ok(())
-}
-
-// The record of an accepted call goes into the unused end of the journal; a refused call changes nothing.
-fn put(h: Head, journal: &mut [u8], accepted: bool, r: Record) -> Head
-    requires { (accepted ≡ true) → h.journal.used + 1 ≤ room_of (length journal.old) }
-    ensures { Put h journal.old accepted r result journal.new }
-{
-    if accepted {
-        let used = h.journal.used;
-        record::append(journal, used, r);
-        return h.longer();
-    }
-    h
+    record::append(journal, h.journal.used, r);
+    h.longer()
 }

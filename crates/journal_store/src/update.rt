@@ -2,10 +2,10 @@
 ghost use Rattle.std.specs.Prelude.{◌≡◌, length};
 ghost use Rattle.rules.specs.Calls.{Update, updated as updated_by};
 ghost use Rattle.answer.specs.Reply.{of_done};
-ghost use Rattle.journal_store.specs.Shape.{Shaped, meaning, room_of};
 ghost use Rattle.journal_store.specs.CallContracts.{Decided, Wrote};
+ghost use Rattle.journal_store.specs.Lent.{meant, room_in};
 
-use crate::Head;
+use crate::{Head, Store};
 use answer::{Outcome, Refusal};
 use rules::{Effect, Record};
 
@@ -13,43 +13,33 @@ use rules::{Effect, Record};
 fn updated(n: u32, k: u32, e: Effect) -> Record
     ensures { result ≡ updated_by n k e }
 {
-    match e {
-        Effect::Assign(v) => Record {
-            kind: Record::ASSIGN,
-            zeros: 0,
-            transaction: n,
-            key: k,
-            value: v,
-            time: 0,
-        },
-        Effect::Add(d) => Record {
-            kind: Record::ADD,
-            zeros: 0,
-            transaction: n,
-            key: k,
-            value: d,
-            time: 0,
-        },
+    let (kind, value) = match e {
+        Effect::Assign(v) => (Record::ASSIGN, v),
+        Effect::Add(d) => (Record::ADD, d),
+    };
+    Record {
+        key: k,
+        value,
+        ..crate::blank(kind, n)
     }
 }
 
 // What a store of good shape answers.
-fn decide(h: Head, keys: &[u32], values: &[u32], journal: &[u8], n: u32, k: u32, e: Effect) -> Result<(), Refusal>
-    requires { Shaped h (length keys.now) (length values.now) (length journal.now) }
-    ensures { Decided (Update n k e) (room_of (length journal.now)) (meaning h keys.now values.now journal.now) (of_done result) }
+fn decide(store: Store<'_>, n: u32, k: u32, e: Effect) -> Result<(), Refusal>
+    ensures { Decided (Update n k e) (room_in store.entry) (meant store.entry) (of_done result) }
 {
-    let used = h.journal.used;
-    if !journal::transactions::runs(journal, used, n) {
+    if !journal::transactions::runs(store.records.bytes, store.records.used, n) {
         return Err(Refusal::UnknownTransaction);
     }
     if k == 0 {
         return Err(Refusal::BadKey);
     }
-    if !conflict::may_write(journal, used, n, k) {
+    if !conflict::may_write(store.records.bytes, store.records.used, n, k) {
         return Err(Refusal::KeysFull);
     }
-    let running = journal::transactions::count_running(journal, used);
-    crate::with_room(journal.len(), used + (1 + running))
+    store.with_room(
+        1 + journal::transactions::count_running(store.records.bytes, store.records.used),
+    )
 }
 
 // Notes an effect of a running transaction on a key.
@@ -64,13 +54,10 @@ pub fn update(
 ) -> Outcome<Head, ()>
     ensures { Wrote (Update n k e) h keys.now values.now journal.old (of_done result.answer) result.head journal.new }
 {
-    if !crate::shaped(h, keys.len(), values.len(), journal.len()) {
-        return Outcome {
-            head: h,
-            answer: Err(Refusal::BadShape),
-        };
-    }
-    let answer = decide(h, keys, values, journal, n, k, e);
-    let head = crate::put(h, journal, answer.is_ok(), updated(n, k, e));
+    let answer = Store::new(h, keys, values, journal).and_then(|store| decide(store, n, k, e));
+    let Ok(()) = answer else {
+        return Outcome { head: h, answer };
+    };
+    let head = crate::put(h, journal, updated(n, k, e));
     Outcome { head, answer }
 }

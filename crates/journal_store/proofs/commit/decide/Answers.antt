@@ -1,6 +1,6 @@
 -- `journal_store::commit::decide` meets its contract: a law for each way out. Assumes nothing.
 use mathlib.Core.Path.{sym, ◌∙◌}
-use Rattle.record.specs.Bytes.{records_in}
+use Rattle.record.specs.Records.{records_of}
 use Rattle.record.specs.Laws.{length_records}
 use Rattle.journal.specs.PastLaws.{past_last}
 use Rattle.journal_store.specs.Tests.{commit_room}
@@ -8,8 +8,7 @@ use Rattle.journal_store.proofs.commit.decide.Goals as goal
 
 pub conflict-requires : goal.conflict-requires
 conflict-requires c =
-    let a = c.args in
-    (c.requires.used_limit, c.requires.used, rw c.last-last.ensures (past_last a.h.low (records_in a.h.journal.used a.journal.now)))
+    let s = c.args.store in (s.few_records, s.records.there, rw c.last-last.ensures (past_last s.low (records_of s.records)))
 
 pub returns : goal.returns
 returns c =

@@ -7,4 +7,4 @@ use Rattle.journal_store.proofs.update.decide.Goals as goal
 pub returns : goal.returns
 returns c =
     update_room (sym c.runs.ensures ∙ c.if-not-runs.false) c.if-k-eq0.false (sym c.may_write.ensures ∙ c.if-not-may_write.false)
-    c.count_running-running.ensures.count (length_records _ _) c.with_room.ensures
+    c.count_running.ensures.count (length_records _ _) c.with_room.ensures

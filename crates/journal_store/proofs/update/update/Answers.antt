@@ -1,13 +1,19 @@
--- `journal_store::update::update` meets its contract: what was decided is put. Assumes nothing.
-use mathlib.Core.Path.{sym, ◌∙◌}
-use Rattle.record.specs.Laws.{length_records}
+-- `journal_store::update::update` meets its contract: what was decided is written. Assumes nothing.
+use Rattle.std.specs.Prelude.{refl, None}
+use Rattle.rules.specs.Calls.{Update}
+use Rattle.std.proofs.Common.{rules}
 use Rattle.journal_store.specs.Laws.{has_room, wrote}
+use Rattle.journal_store.specs.LentLaws.{told_by}
 use Rattle.journal_store.proofs.update.update.Goals as goal
 
 pub put-head-requires : goal.put-head-requires
-put-head-requires c = has_room c.decide-answer.ensures c.accepted.ensures (length_records _ _)
+put-head-requires c =
+    let a = c.args in
+    has_room (told_by a.h a.keys.now a.values.now a.journal.now (λ _. None) (Update a.n a.k a.e) c.new.result c.and_then-answer.result c.new.ensures (search rules))
+    (rw c.in-Ok.is refl)
 
 pub returns : goal.returns
 returns c =
-    wrote (sym c.shaped.ensures ∙ c.if-not-shaped.false) c.decide-answer.ensures
-    c.accepted.ensures (λ e. c.updated.ensures) c.put-head.ensures
+    let a = c.args in
+    wrote (told_by a.h a.keys.now a.values.now a.journal.now (λ _. None) (Update a.n a.k a.e) c.new.result c.and_then-answer.result c.new.ensures (search rules))
+    (rw c.in-Ok.is refl) c.put-head.ensures.0 (rw c.updated.ensures at c.put-head.ensures.1)
