@@ -1,33 +1,21 @@
--- What the value of a key asks of what is lent, and what its pass over the records carries: the key's updates so far, kept in three columns in
+-- What the pass of a key over the records carries: the key's updates so far, kept in three columns in
 -- the order of the journal. Assumes nothing.
-use Rattle.std.specs.Prelude.{◌≡◌, false, cond, List, ℕ, zero, suc, ◌*◌, ◌≤◌, eqb, length, get_or, Some, None, Option}
+use Rattle.std.specs.Prelude.{◌≡◌, false, cond, List, ℕ, zero, suc, ◌≤◌, eqb, length, get_or, Some, None, Option}
 use Rattle.rules.specs.declared.Record.{Record}
 use Rattle.rules.specs.Value.{Value}
 use Rattle.rules.specs.declared.Effect.{Effect}
 use Rattle.rules.specs.declared.Effect.TheVariants.{Assign, Add}
-use Rattle.rules.specs.Kinds.{record_size}
 use Rattle.rules.specs.Effects.{applied, effects}
 use Rattle.rules.specs.Transactions.{of, wrote}
 use Rattle.rules.specs.Values.{value}
-use Rattle.rules.specs.Limits.{most_records}
-use Rattle.rules.specs.Columns.{Rows}
 use Rattle.record.specs.Bytes.{records_in}
+use Rattle.record.specs.declared.Records.{Records}
 use Rattle.values.specs.declared.value.Settled.{Settled}
 
--- the used records stand in the journal, and are not too many
-pub record Records (journal : List ℕ) (used : ℕ) : Type 0 where
-  pub few : used ≤ most_records
-  pub there : used * record_size ≤ length journal
-
--- what a value over the base is read from
-pub record Inside (keys values : List ℕ) (rows : ℕ) (journal : List ℕ) (used : ℕ) : Type 0 where
-  pub base : Rows keys values rows
-  pub records : Records journal used
-
 -- no record before this place writes the key
-pub record Unwritten (journal : List ℕ) (used k i : ℕ) : Type 0 where
-  pub within : i ≤ used
-  pub before : wrote k (records_in i journal) ≡ false
+pub record Unwritten (records : Records) (k i : ℕ) : Type 0 where
+  pub within : i ≤ records.used
+  pub before : wrote k (records_in i records.bytes.now) ≡ false
 
 -- so many kept updates stand in their three columns: transaction, kind and amount
 pub record Aside (transactions kinds amounts : List ℕ) (count : ℕ) : Type 0 where

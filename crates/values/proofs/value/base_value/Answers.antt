@@ -36,23 +36,23 @@ module _ (keys values : List ℕ) (rows k : ℕ) (there : Rows keys values rows)
   no_row : f ≡ None → None ≡ row_value (first_rows rows keys values) k
   no_row e = rw (same, e)
 
-pub offset_bounds-values-i : goal.offset_bounds-values-i
-offset_bounds-values-i c =
-    let a = c.args in
-    let h : c.in-Some.i < length a.values.now = in_values a.keys.now a.values.now a.rows a.k c.requires _ c.find-found.ensures _ c.in-Some.is in
+pub returns-in_err-i : goal.returns-in_err-i
+returns-in_err-i c =
+    let b = c.args.base in
+    c.from_residual.ensures ∙ no_row b.keys.now b.values.now b.count c.args.k b.there _ c.find.ensures c.in_err-i.was
+
+pub offset_bounds-base-i : goal.offset_bounds-base-i
+offset_bounds-base-i c =
+    let b = c.args.base in
+    let h : c.in_ok-i.i < length b.values.now = in_values b.keys.now b.values.now b.count c.args.k b.there _ c.find.ensures _ c.in_ok-i.was in
     search rules
 
-pub bounds-values-i : goal.bounds-values-i
-bounds-values-i c =
-    let a = c.args in
-    in_values a.keys.now a.values.now a.rows a.k c.requires _ c.find-found.ensures _ c.in-Some.is
+pub bounds-base-i : goal.bounds-base-i
+bounds-base-i c =
+    let b = c.args.base in
+    in_values b.keys.now b.values.now b.count c.args.k b.there _ c.find.ensures _ c.in_ok-i.was
 
-pub returns-in-Some : goal.returns-in-Some
-returns-in-Some c =
-    let a = c.args in
-    at_row a.keys.now a.values.now a.rows a.k c.requires _ c.find-found.ensures _ c.in-Some.is
-
-pub returns-in-None : goal.returns-in-None
-returns-in-None c =
-    let a = c.args in
-    no_row a.keys.now a.values.now a.rows a.k c.requires _ c.find-found.ensures c.in-None.is
+pub returns : goal.returns
+returns c =
+    let b = c.args.base in
+    at_row b.keys.now b.values.now b.count c.args.k b.there _ c.find.ensures _ c.in_ok-i.was

@@ -1,10 +1,6 @@
--- `values::value::first_update` meets its contract, which is the loop's invariant too. The measure is how many records are left. Assumes nothing.
-use Prim.Native.Nat.{◌-◌}
+-- `values::value::first_update` meets its contract, which is the loop's invariant too. Assumes nothing.
 use Rattle.values.specs.Pass.{Unwritten}
 use Rattle.values.proofs.value.first_update.Given as goal
 
 abbrev pub invariant-loop-i : goal.invariant-loop-i
-invariant-loop-i l = Unwritten l.journal l.used l.k l.i
-
-abbrev pub decreases-loop-i : goal.decreases-loop-i
-decreases-loop-i l = l.used - l.i
+invariant-loop-i l = Unwritten l.records l.k l.i

@@ -1,5 +1,5 @@
 -- `values::value::settle` meets its contract. The loop's invariant says what the kept updates do and not what they hold: for every transaction they do
--- what the first i records do to the key; and v is the value of the first i records. The measure is how many are left. Assumes nothing.
+-- what the first i records do to the key; and v is the value of the first i records. Assumes nothing.
 use mathlib.Core.Path.{◌≡◌, refl, sym, ◌∙◌}
 use mathlib.Core.Bool.{true, false, ◌&&◌}
 use mathlib.Core.List.{List}
@@ -52,58 +52,54 @@ pub loop-i-init : goal.loop-i-init
 loop-i-init c =
     let a = c.args in
     let none = c.first_update-i.ensures.before in
-    let front = records_in c.first_update-i.result a.journal.now in (
-      c.first_update-i.ensures.within,
-      record {
-        few = omega arith;
-        transactions_room = refl;
-        kinds_room = refl;
-        amounts_room = refl;
-        does = λ m x. sym (effects_unwritten a.k m front x none);
-        is = sym (value_unwritten a.start a.k a.t front none);
-      },
-    )
+    let front = records_in c.first_update-i.result a.records.bytes.now in
+    record {
+      few = omega arith;
+      transactions_room = refl;
+      kinds_room = refl;
+      amounts_room = refl;
+      does = λ m x. sym (effects_unwritten a.k m front x none);
+      is = sym (value_unwritten a.start a.k a.t front none);
+    }
 
 pub loop-i-preserved : goal.loop-i-preserved
 loop-i-preserved c =
     let l = c.loop-i in
     let a = c.args in
-    let y = l.invariant.1 in
-    let e = c.read-r.ensures in
+    let y = l.invariant in
+    let e = c.at-r.ensures in
     let o = sym c.writes.ensures in
     let s = sym c.settles.ensures in
-    let j = a.journal.now in (
-      omega arith,
-      record {
-        few = elim c.if-writes.branch [ then-writes w ↦ omega (arith, y.few) | else-writes w ↦ omega (arith, y.few) ];
-        transactions_room =
-            elim c.if-writes.branch [
-              | then-writes w ↦ rw w.transactions-is (simp length-set y.transactions_room)
-              | else-writes w ↦ rw w.transactions-is y.transactions_room
-            ];
-        kinds_room =
-            elim c.if-writes.branch [
-              | then-writes w ↦ rw w.kinds-is (simp length-set y.kinds_room)
-              | else-writes w ↦ rw w.kinds-is y.kinds_room
-            ];
-        amounts_room =
-            elim c.if-writes.branch [
-              | then-writes w ↦ rw w.amounts-is (simp length-set y.amounts_room)
-              | else-writes w ↦ rw w.amounts-is y.amounts_room
-            ];
-        does =
-            elim c.if-writes.branch [
-              | then-writes w ↦ kept j a.start a.k a.t l.i _ e l.transactions l.kinds l.amounts l.n y.does _ _ _ _
-                  w.transactions-is w.kinds-is w.amounts-is w.n-is
-                  (omega (arith, y.few, y.transactions_room, c.requires.1.in_transactions)) (omega (arith, y.few, y.kinds_room, c.requires.1.in_kinds))
-                  (omega (arith, y.few, y.amounts_room, c.requires.1.in_amounts)) (o ∙ w.if-writes.true)
-              | else-writes w ↦ passed j a.start a.k a.t l.i _ e l.transactions l.kinds l.amounts l.n y.does _ _ _ _
-                  w.transactions-is w.kinds-is w.amounts-is w.n-is (o ∙ w.if-writes.false)
-            ];
-        is =
-            elim c.if-settles.branch [
-              | then-settles w ↦ stands j a.start a.k a.t l.i _ e l.v _ y.is (s ∙ w.if-settles.true) (w.v-is ∙ w.kept_effects-v.ensures ∙ y.does _ _)
-              | else-settles w ↦ waits j a.start a.k a.t l.i _ e l.v _ y.is (s ∙ w.if-settles.false) w.v-is
-            ];
-      },
-    )
+    let j = a.records.bytes.now in
+    record {
+      few = elim c.if-writes.branch [ then-writes w ↦ omega (arith, y.few) | else-writes w ↦ omega (arith, y.few) ];
+      transactions_room =
+          elim c.if-writes.branch [
+            | then-writes w ↦ rw w.transactions-is (simp length-set y.transactions_room)
+            | else-writes w ↦ rw w.transactions-is y.transactions_room
+          ];
+      kinds_room =
+          elim c.if-writes.branch [
+            | then-writes w ↦ rw w.kinds-is (simp length-set y.kinds_room)
+            | else-writes w ↦ rw w.kinds-is y.kinds_room
+          ];
+      amounts_room =
+          elim c.if-writes.branch [
+            | then-writes w ↦ rw w.amounts-is (simp length-set y.amounts_room)
+            | else-writes w ↦ rw w.amounts-is y.amounts_room
+          ];
+      does =
+          elim c.if-writes.branch [
+            | then-writes w ↦ kept j a.start a.k a.t l.i _ e l.transactions l.kinds l.amounts l.n y.does _ _ _ _
+                w.transactions-is w.kinds-is w.amounts-is w.n-is
+                (omega (arith, y.few, y.transactions_room, c.requires.in_transactions)) (omega (arith, y.few, y.kinds_room, c.requires.in_kinds))
+                (omega (arith, y.few, y.amounts_room, c.requires.in_amounts)) (o ∙ w.if-writes.true)
+            | else-writes w ↦ passed j a.start a.k a.t l.i _ e l.transactions l.kinds l.amounts l.n y.does _ _ _ _
+                w.transactions-is w.kinds-is w.amounts-is w.n-is (o ∙ w.if-writes.false)
+          ];
+      is =
+          elim c.if-settles.branch [
+            | then-settles w ↦ stands j a.start a.k a.t l.i _ e l.v _ y.is (s ∙ w.if-settles.true) (w.v-is ∙ w.kept_effects-v.ensures ∙ y.does _ _)
+            | else-settles w ↦ waits j a.start a.k a.t l.i _ e l.v _ y.is (s ∙ w.if-settles.false) w.v-is
+          ];
+    }

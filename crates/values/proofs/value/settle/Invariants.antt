@@ -1,8 +1,8 @@
 -- `values::value::settle` meets its contract. The loop's invariant says what the kept updates do and not what they hold: for every transaction they do
--- what the first i records do to the key; and v is the value of the first i records. The measure is how many are left. Assumes nothing.
+-- what the first i records do to the key; and v is the value of the first i records. Assumes nothing.
 use mathlib.Core.Path.{◌≡◌}
 use mathlib.Core.List.{List}
-use Prim.Native.Nat.{ℕ, ◌-◌, ◌≤◌}
+use Prim.Native.Nat.{ℕ, ◌≤◌}
 use lib.ListN.{length}
 use Rattle.rules.specs.Value.{Value}
 use Rattle.rules.specs.Values.{value}
@@ -21,7 +21,4 @@ pub record Pass (j : List ℕ) (start : Value) (k t i : ℕ) (transactions₀ ki
 
 abbrev pub invariant-loop-i : goal.invariant-loop-i
 invariant-loop-i l =
-    (l.i ≤ l.used) × Pass l.journal l.initial.v l.k l.t l.i l.initial.transactions l.initial.kinds l.initial.amounts l.transactions l.kinds l.amounts l.n l.v
-
-abbrev pub decreases-loop-i : goal.decreases-loop-i
-decreases-loop-i l = l.used - l.i
+    Pass l.records.bytes.now l.initial.v l.k l.t l.i l.initial.transactions l.initial.kinds l.initial.amounts l.transactions l.kinds l.amounts l.n l.v
