@@ -8,7 +8,7 @@ use Rattle.slot.specs.declared.Slots.{Slots}
 use Rattle.slot.specs.Slots.{slot_at, is_occupied, first_from, first_slot}
 
 -- what holds at i and from i + 1 on holds from i on
-from_on : (P : ℕ → Type 0) (i : ℕ) → P i → ((j : ℕ) → i + 1 ≤ j → P j) → (j : ℕ) → i ≤ j → P j
+pub from_on : (P : ℕ → Type 0) (i : ℕ) → P i → ((j : ℕ) → i + 1 ≤ j → P j) → (j : ℕ) → i ≤ j → P j
 from_on P i here after j l =
     ⊎_elim (λ (e : i ≡ j). rw (← e) here) (λ (m : i < j). after j (omega arith)) (eq-or-lt_of_le l)
 

@@ -1,5 +1,6 @@
 -- What is found, opened, noted and closed in the slots is found, opened, noted and closed in the places that they mean. Assumes nothing.
 use Rattle.std.specs.Prelude.{true, ◌||◌, List, [], ◌∷◌, ◌≡◌, refl, ℕ, zero, suc, ◌+◌, ◌/◌, ◌%◌, ◌^◌, ◌<◌, ◌≤◌, ltb, length, Some}
+use Rattle.std.specs.Option.{is_some}
 use Rattle.std.proofs.Common.{ap₂, ◌∙◌, add-zero, zero-add, arith, eqb-true, ltb-true, ltb-false, get_or-set_other}
 use Rattle.std.proofs.lemmas.Bool.{eqb-false}
 use Rattle.std.specs.Int.Count.{ones, ones_step}
@@ -13,7 +14,7 @@ use Rattle.slot.specs.declared.Slots.{Slots}
 use Rattle.slot.specs.Bits.{bit, zero_from}
 use Rattle.slot.specs.BitLaws.{half, bit_same, bit_other, zero_from_lem}
 use Rattle.slot.specs.Slot.{opened_slot, empty_slot, noted}
-use Rattle.slot.specs.Slots.{empty_slots, no_slot, slot_at, is_occupied, lowest_free, first_from, first_slot, is_found, has_number, is_below, slot_of, slots_hold, replaced, opened_in, noted_in, closed_in}
+use Rattle.slot.specs.Slots.{empty_slots, no_slot, slot_at, is_occupied, lowest_free, first_from, first_slot, has_number, is_below, slot_of, slots_hold, replaced, opened_in, noted_in, closed_in}
 use Rattle.slot.specs.Formed.{Formed}
 use Rattle.slot.specs.Laws.{first_from_lem, first_slot_lem}
 use Rattle.slot.specs.Places.{Place, free, taken, has_key, note, place_of, open_in, amend, occupied, holds, slot_rows, place_in, place_at, places_from, places_of}
@@ -37,7 +38,7 @@ unfolding places_of first_slot
 place_slot h n = place_from h n 0 most_running
 
 -- a time above a running snapshot
-holds_from : (h : Slots) (t i c : ℕ) → holds t (places_from h i c) ≡ is_found (first_from (is_below t) h i c)
+holds_from : (h : Slots) (t i c : ℕ) → holds t (places_from h i c) ≡ is_some (first_from (is_below t) h i c)
 holds_from h t i zero = refl
 holds_from h t i (suc c) =
     split (is_occupied h i)

@@ -1,5 +1,6 @@
 -- The rows of a slot mean what is found and noted in it. Assumes nothing.
 use Rattle.std.specs.Prelude.{true, false, cond, ◌||◌, List, [], ◌∷◌, ◌≡◌, refl, ℕ, zero, suc, ◌<◌, eqb, ltb, length, get_or, set, take, Option, Some, None}
+use Rattle.std.specs.Option.{is_some}
 use Rattle.std.proofs.lemmas.Bool.{false≢true}
 use Rattle.std.proofs.Common.{⊎_elim, ap, eq-or-lt_of_le, le_of_suc-le-suc, add-one, arith, eq-eqb, ne_eqb, eqb-true, ltb-true, length-set, get_or-set_same, get_or-set_other, get_or-take, length-take-le}
 use Rattle.rules.specs.declared.Effect.{Effect}
@@ -11,7 +12,6 @@ use Rattle.rules.specs.Bools.{split, or_right, or_none_left, or_none_right, or_f
 use Rattle.column.specs.Laws.{first_at, absent_nothing}
 use Rattle.slot.specs.declared.Slot.{Slot}
 use Rattle.slot.specs.Slot.{key_row, noted}
-use Rattle.slot.specs.Slots.{is_found}
 use Rattle.slot.specs.Formed.{Rowed}
 use Rattle.slot.specs.Places.{Note, taken, note_keys, has_key, makes, joined_in, note, notes_of, slot_rows, made_in, taken_by}
 
@@ -179,7 +179,7 @@ module _ (s : Slot) (w : Rowed s) (k : ℕ) where
   has_absent e = has_none s.keys s.values s.marks k s.count (row_absent e)
 
   -- a key has a row exactly if one is found
-  pub has_row : has_key k (slot_rows s) ≡ is_found (key_row s k)
+  pub has_row : has_key k (slot_rows s) ≡ is_some (key_row s k)
   has_row = cases (key_row s k) (λ i e. rw e (has_found i (row_found i e))) (λ e. rw e (has_absent e))
 
   -- and its value becomes what the effect in that row makes of it

@@ -1,5 +1,6 @@
 -- Rule 3.8, the eight slots: occupied ones are the one bits of a single number. Assumes nothing.
-use Rattle.std.specs.Prelude.{Bool, true, false, cond, not, ◌&&◌, [], ℕ, zero, suc, ◌+◌, eqb, ltb, get_or, set, replicate, Option, Some, None}
+use Rattle.std.specs.Prelude.{Bool, cond, not, ◌&&◌, [], ℕ, zero, suc, ◌+◌, eqb, ltb, get_or, set, replicate, Option, Some, None}
+use Rattle.std.specs.Option.{is_some}
 use Rattle.rules.specs.declared.Effect.{Effect}
 use Rattle.rules.specs.Limits.{most_running, most_keys}
 use Rattle.slot.specs.declared.Slot.{Slot}
@@ -36,11 +37,6 @@ first_from p h i (suc c) = cond (is_occupied h i && p (slot_at h i)) (Some i) (f
 unfoldable pub first_slot : (Slot → Bool) → Slots → Option ℕ
 first_slot p h = first_from p h 0 most_running
 
--- something was found
-abbrev pub is_found : Option ℕ → Bool
-is_found (Some i) = true
-is_found None = false
-
 -- a slot has the number
 abbrev pub has_number : ℕ → Slot → Bool
 has_number n s = eqb s.number n
@@ -59,11 +55,11 @@ slot_of h n = first_slot (has_number n) h
 
 -- no occupied slot has more than 32 keys
 abbrev pub slots_shaped : Slots → Bool
-slots_shaped h = not (is_found (first_slot is_overfull h))
+slots_shaped h = not (is_some (first_slot is_overfull h))
 
 -- t is above the snapshot of an occupied slot
 abbrev pub slots_hold : Slots → ℕ → Bool
-slots_hold h t = is_found (first_slot (is_below t) h)
+slots_hold h t = is_some (first_slot (is_below t) h)
 
 -- slot i replaced, its bit made b
 abbrev pub replaced : Slots → ℕ → ℕ → Slot → Slots

@@ -1,13 +1,13 @@
 // The transaction slots of the map store, rule 3.8: they pass by value, and each operation hands the changed one back.
 #![tactic(auto)]
 
-ghost use Rattle.std.specs.Prelude.{true, ◌≡◌, ℕ, ◌<◌};
+ghost use Rattle.std.specs.Prelude.{Bool, true, ◌≡◌, ℕ, ◌<◌, ◌≤◌};
 ghost use Rattle.std.specs.Int.Count.{ones};
 ghost use Rattle.rules.specs.Limits.{most_running, most_keys};
 ghost use Rattle.slot.specs.Slot.{empty_slot, opened_slot, key_row, effect_at};
 ghost use Rattle.slot.specs.Slot.{noted as noted_slot};
-ghost use Rattle.slot.specs.Slots.{empty_slots, slot_at, is_occupied, lowest_free, slot_of, slots_shaped, slots_hold, opened_in, closed_in};
-ghost use Rattle.slot.specs.Formed.{Formed};
+ghost use Rattle.slot.specs.Slots.{empty_slots, slot_at, is_occupied, lowest_free, first_slot, slot_of, slots_shaped, slots_hold, opened_in, closed_in};
+ghost use Rattle.slot.specs.Formed.{Rowed, Formed};
 
 use rules::Effect;
 
@@ -150,10 +150,7 @@ impl Slots {
     pub fn is_occupied(self, i: usize) -> bool
         ensures { result ≡ is_occupied self i }
     {
-        if i >= Slots::SLOTS {
-            return false;
-        }
-        (self.occupied >> i) % 2 == 1
+        i < Slots::SLOTS && (self.occupied >> i) % 2 == 1
     }
 
     // The slot at an index.
@@ -164,22 +161,26 @@ impl Slots {
         self.slots[index]
     }
 
+    // The lowest occupied slot that meets a test, whichever function of a slot the test computes. Where none does, all were looked at.
+    fn first<F: Fn(Slot) -> bool>(self, test: F) -> Option<usize>
+        requires { F.IsAlwaysCallable test }
+        ensures lowest { (p : Slot → Bool) → ((s : Slot) (b : Bool) → F.post test s b → b ≡ p s) → result ≡ first_slot p self }
+        ensures passed { result ≡ None → (i : ℕ) → i < most_running → is_occupied self i ≡ true → (slot_at self i).count ≤ most_keys → Rowed (slot_at self i) }
+    {
+        for i in 0..Slots::SLOTS {
+            if self.is_occupied(i) && test(self.at(i)) {
+                return Some(i);
+            }
+        }
+        None
+    }
+
     // The lowest occupied slot with the number, one of the eight.
     pub fn find(self, number: u32) -> Option<usize>
         ensures value { result ≡ slot_of self number }
         ensures by_index { (i : ℕ) → result ≡ Some i → i < most_running }
     {
-        let mut i = 0;
-        while i < Slots::SLOTS {
-            if self.is_occupied(i) {
-                let s = self.at(i);
-                if s.number == number {
-                    return Some(i);
-                }
-            }
-            i += 1;
-        }
-        None
+        self.first(|s| s.number == number)
     }
 
     // A new transaction in the lowest-numbered free slot; nothing changes where none is free.
@@ -212,33 +213,13 @@ impl Slots {
         ensures value { result ≡ slots_shaped self }
         ensures formed { result ≡ true → Formed self }
     {
-        let mut i = 0;
-        while i < Slots::SLOTS {
-            if self.is_occupied(i) {
-                let s = self.at(i);
-                if s.count > Slot::KEYS {
-                    return false;
-                }
-            }
-            i += 1;
-        }
-        true
+        self.first(|s| s.count > Slot::KEYS).is_none()
     }
 
     // The time is above the snapshot of an occupied slot.
     pub fn holds(self, t: u64) -> bool
         ensures { result ≡ slots_hold self t }
     {
-        let mut i = 0;
-        while i < Slots::SLOTS {
-            if self.is_occupied(i) {
-                let s = self.at(i);
-                if s.snapshot < t {
-                    return true;
-                }
-            }
-            i += 1;
-        }
-        false
+        self.first(|s| s.snapshot < t).is_some()
     }
 }

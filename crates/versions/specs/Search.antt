@@ -1,11 +1,6 @@
 -- How a search passes rows that do not count. Assumes nothing.
 use Rattle.std.specs.Prelude.{◌≡◌, Bool, false, ◌||◌, List, [], ◌∷◌, ℕ, ◌≤◌, ◌<◌, get_or}
 
--- some cell passes the test
-abbrev pub some : (ℕ → Bool) → List ℕ → Bool
-some p [] = false
-some p (x ∷ xs) = p x || some p xs
-
 -- no row from m up to r, of n, has k
 pub record Passed (k : ℕ) (ks : List ℕ) (m n r : ℕ) : Type 0 where
   pub from : m ≤ r

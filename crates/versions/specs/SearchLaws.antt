@@ -5,32 +5,17 @@ use Rattle.std.proofs.lemmas.Bool.{eqb-false}
 use Rattle.std.proofs.Math.Seq.{drop-length}
 use Rattle.rules.specs.Bools.{split, or_left, or_right, or_none_left, or_none_right, and_false, or_false}
 use Rattle.versions.specs.Versions.{Columns, versions_of, newest, later}
-use Rattle.versions.specs.Search.{some, Passed, Early}
+use Rattle.std.specs.List.{list_any}
+use Rattle.versions.specs.Search.{Passed, Early}
 
 -- where no cell passes the test, none of them does
-not_some : (p : ℕ → Bool) (xs : List ℕ) → some p xs ≡ false → (j : ℕ) → j < length xs → p (get_or xs j 0) ≡ false
+not_some : (p : ℕ → Bool) (xs : List ℕ) → list_any p xs ≡ false → (j : ℕ) → j < length xs → p (get_or xs j 0) ≡ false
 not_some p [] h j l = absurd (omega arith)
-not_some p (x ∷ xs) h zero l = or_none_left (p x) (some p xs) h
-not_some p (x ∷ xs) h (suc j) l = not_some p xs (or_none_right (p x) (some p xs) h) j (omega arith)
-
-module _ (p : ℕ → Bool) (cells : List ℕ) where
-  -- one cell more is looked at: met or not, what is left completes to the answer
-  module _ (i : ℕ) (l : i < length cells) (met : Bool) (h : (met || some p (drop i cells)) ≡ some p cells) where
-    left : (met || (p (get_or cells i 0) || some p (drop (suc i) cells))) ≡ some p cells
-    left = rw (drop-cons cells i 0 l) at h
-
-    pub met_here : p (get_or cells i 0) ≡ true → (true || some p (drop (i + 1) cells)) ≡ some p cells
-    met_here e =
-        sym (or_right met (p (get_or cells i 0) || some p (drop (suc i) cells)) (or_left (p (get_or cells i 0)) (some p (drop (suc i) cells)) e)) ∙ left
-
-    pub not_here : p (get_or cells i 0) ≡ false → (met || some p (drop (i + 1) cells)) ≡ some p cells
-    not_here e = rw add-one (rw e at left)
-
-  pub all_met : (met : Bool) → (met || some p (drop (length cells) cells)) ≡ some p cells → met ≡ some p cells
-  all_met met h = rw (drop-length cells, or_false met) at h
+not_some p (x ∷ xs) h zero l = or_none_left (p x) (list_any p xs) h
+not_some p (x ∷ xs) h (suc j) l = not_some p xs (or_none_right (p x) (list_any p xs) h) j (omega arith)
 
 -- none of the cells from i up to e passes the test
-pub none_from : (p : ℕ → Bool) (i e : ℕ) (cells : List ℕ) → e ≤ length cells → some p (take (e - i) (drop i cells)) ≡ false
+pub none_from : (p : ℕ → Bool) (i e : ℕ) (cells : List ℕ) → e ≤ length cells → list_any p (take (e - i) (drop i cells)) ≡ false
     → (j : ℕ) → i ≤ j → j < e → p (get_or cells j 0) ≡ false
 none_from p i e cells l h j a b =
     let q : i + (j - i) ≡ j = omega arith in
@@ -78,7 +63,7 @@ module _ (k : ℕ) (ks : List ℕ) (m n : ℕ) where
   passed_none l = record { from = omega arith; within = l; none = λ j a b. absurd (omega arith) }
 
   -- the rows from i up to e are passed too
-  pub passed_more : {i : ℕ} (e : ℕ) → i ≤ e → e ≤ n → n ≤ length ks → some (λ x. eqb x k) (take (e - i) (drop i ks)) ≡ false → Passed k ks m n i
+  pub passed_more : {i : ℕ} (e : ℕ) → i ≤ e → e ≤ n → n ≤ length ks → list_any (λ x. eqb x k) (take (e - i) (drop i ks)) ≡ false → Passed k ks m n i
       → Passed k ks m n e
   passed_more {i} e g l f h w =
       record {
@@ -92,7 +77,7 @@ module _ (k : ℕ) (ks : List ℕ) (m n : ℕ) where
       }
 
 -- the rows from i up to e are early too
-pub early_more : (s : ℕ) (ts : List ℕ) (i e : ℕ) → e ≤ length ts → some (λ x. ltb s x) (take (e - i) (drop i ts)) ≡ false → Early s ts i
+pub early_more : (s : ℕ) (ts : List ℕ) (i e : ℕ) → e ≤ length ts → list_any (λ x. ltb s x) (take (e - i) (drop i ts)) ≡ false → Early s ts i
     → Early s ts e
 early_more s ts i e l h w j b =
     split (ltb j i)

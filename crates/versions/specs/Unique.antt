@@ -6,6 +6,7 @@ use Rattle.rules.specs.declared.Effect.{Effect}
 use Rattle.rules.specs.Effects.{applied}
 use Rattle.rules.specs.Bools.{split}
 use Rattle.versions.specs.declared.Version.{Version}
+use Rattle.versions.specs.declared.stamps.Stamps.{Stamps}
 use Rattle.versions.specs.Versions.{Columns, columns, no_columns, keyed, versions_of, newest, row_of, value_at, later}
 use Rattle.versions.specs.Columns.{with_version}
 use Rattle.versions.specs.Search.{FirstLate}
@@ -40,3 +41,7 @@ module _ (n : ℕ) (ks ts : List ℕ) where
 
 pub append_unique : (n : ℕ) (v : Version) (cs : Columns) {cs₁ cs₂ : Columns} → cs₁ ≡ with_version n v cs → cs₂ ≡ with_version n v cs → cs₁ ≡ cs₂
 append_unique n v cs p q = p ∙ sym q
+
+pub stamps_new_unique : (ks ts : List ℕ) (n : ℕ) (a b : Stamps) → (a.keys.now ≡ ks) × (a.times.now ≡ ts) × (a.used ≡ n)
+    → (b.keys.now ≡ ks) × (b.times.now ≡ ts) × (b.used ≡ n) → (a.keys.now ≡ b.keys.now) × (a.times.now ≡ b.times.now) × (a.used ≡ b.used)
+stamps_new_unique ks ts n a b p q = (p.0 ∙ sym q.0, p.1 ∙ sym q.1, p.2 ∙ sym q.2)

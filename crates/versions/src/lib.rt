@@ -3,16 +3,18 @@
 
 mod conflict;
 mod search;
+mod stamps;
 
-ghost use Rattle.std.specs.Prelude.{◌≡◌, List, ℕ, ◌+◌, ◌≤◌, ◌<◌, min, eqb, length};
+ghost use Rattle.std.specs.Prelude.{◌≡◌, Bool, false, List, ℕ, ◌+◌, ◌-◌, ◌≤◌, ◌<◌, min, length, take, drop};
 ghost use Rattle.rules.specs.Effects.{applied};
-ghost use Rattle.versions.specs.Versions.{columns, versions_of, value_at};
+ghost use Rattle.versions.specs.Versions.{columns, value_at};
 ghost use Rattle.versions.specs.Columns.{Spans, with_version};
-ghost use Rattle.versions.specs.Search.{some, Passed};
+ghost use Rattle.std.specs.List.{list_any};
+ghost use Rattle.versions.specs.Stamps.{versions_in};
 
-pub use conflict::{first_late, is_later};
+pub use conflict::first_late;
 use rules::{Effect, Value};
-pub use search::newest_row;
+pub use stamps::Stamps;
 
 // What a commit gave a key: a row of the four columns. The mark is 0 unless adds alone made the value.
 #[derive(Clone, Copy)]
@@ -37,30 +39,28 @@ impl Version {
     const WIDE: usize = 16;
 }
 
-// Whether a cell holds k. No cell ends the loop, so that the compiler compares them side by side.
-fn has(cells: &[u32], k: u32) -> bool
-    ensures { result ≡ some (λ x. eqb x k) cells.now }
+// Whether a cell passes a test. No cell ends the loop, so that the compiler tests them side by side.
+fn some<T: Copy, F: Fn(T) -> bool>(cells: &[T], test: F) -> bool
+    requires { F.IsAlwaysCallable test }
+    ensures { (p : T → Bool) → ((x : T) (b : Bool) → F.post test x b → b ≡ p x) → result ≡ list_any p cells.now }
 {
     let mut met = false;
-    let mut i = 0;
-    while i < cells.len() {
-        if cells[i] == k {
-            met = true;
-        }
-        i += 1;
+    for x in cells {
+        met |= test(*x);
     }
     met
 }
 
-// How far the rows from `from` on can be passed: up to 16 of which one has k, or to fewer than 16.
-fn pass(keys: &[u32], from: usize, used: usize, k: u32) -> usize
-    requires { (from ≤ used) × (used ≤ length keys.now) }
-    ensures { Passed k keys.now from used result }
+// How far the cells from `from` on can be passed: up to 16 of which one passes the test, or to fewer than 16.
+fn pass<T: Copy, F: Fn(T) -> bool>(cells: &[T], from: usize, used: usize, test: F) -> usize
+    requires { F.IsAlwaysCallable test × (from ≤ used) × (used ≤ length cells.now) }
+    ensures { (from ≤ result) × (result ≤ used) × ((p : T → Bool) → ((x : T) (b : Bool) → F.post test x b → b ≡ p x) → list_any p (take (result - from) (drop from cells.now)) ≡ false) }
 {
     let mut i = from;
+    // It goes on by 16 cells and answers where it stopped, which a `for` by steps would have to count beside its index.
     while used - i >= Version::WIDE {
         let end = i + Version::WIDE;
-        if has(&keys[i..end], k) {
+        if some(&cells[i..end], &test) {
             return i;
         }
         i = end;
@@ -73,40 +73,26 @@ fn near(i: usize, used: usize) -> usize
     requires { i < used }
     ensures { result ≡ min used (i + 16) }
 {
-    if used - i < Version::WIDE {
-        return used;
-    }
-    i + Version::WIDE
+    i + Version::WIDE.min(used - i)
 }
 
 // The value of k at t, or absent.
-pub fn value_at(keys: &[u32], times: &[u64], values: &[u32], used: usize, k: u32, t: u64) -> Value
-    requires { (used ≤ length keys.now) × (used ≤ length times.now) × (used ≤ length values.now) }
-    ensures { (marks : List ℕ) → result ≡ value_at k t (versions_of used (columns keys.now times.now values.now marks)) }
+pub fn value_at(stamps: Stamps<'_>, values: &[u32], k: u32, t: u64) -> Value
+    requires { stamps.used ≤ length values.now }
+    ensures { (marks : List ℕ) → result ≡ value_at k t (versions_in stamps.entry values.now marks) }
 {
-    let found = search::newest_row(keys, times, used, k, t);
-    match found {
-        Some(i) => Some(values[i]),
-        None => None,
-    }
+    let i = stamps.newest_row(k, t)?;
+    Some(values[i])
 }
 
 // What an effect makes of the value of k at t: an assign asks for no old value, and so for no search.
-pub fn applied_at(
-    keys: &[u32],
-    times: &[u64],
-    values: &[u32],
-    used: usize,
-    k: u32,
-    t: u64,
-    e: Effect,
-) -> Value
-    requires { (used ≤ length keys.now) × (used ≤ length times.now) × (used ≤ length values.now) }
-    ensures { (marks : List ℕ) → result ≡ applied e (value_at k t (versions_of used (columns keys.now times.now values.now marks))) }
+pub fn applied_at(stamps: Stamps<'_>, values: &[u32], k: u32, t: u64, e: Effect) -> Value
+    requires { stamps.used ≤ length values.now }
+    ensures { (marks : List ℕ) → result ≡ applied e (value_at k t (versions_in stamps.entry values.now marks)) }
 {
     match e {
         Effect::Assign(v) => Some(v),
-        Effect::Add(_) => rules::apply(e, value_at(keys, times, values, used, k, t)),
+        Effect::Add(_) => rules::apply(e, value_at(stamps, values, k, t)),
     }
 }
 

@@ -1,44 +1,34 @@
 -- `versions::value_at` meets its contract: the row found is a used one, and the value that stands there is the newest version's.
-use mathlib.Core.Path.{◌≡◌, refl, sym, ◌∙◌}
-use mathlib.Core.List.{[]}
-use Prim.Native.Nat.{ℕ, ◌<◌}
-use native.Mathlib.Omega.{arith}
-use lib.ListN.{get_or}
-use Rattle.std.specs.Prelude.{Option, Some, None}
-use Rattle.versions.specs.Versions.{Columns, columns, versions_of, newest, row_of, value_at}
+use Rattle.std.proofs.Common.{◌≡◌, ℕ, [], refl, ◌<◌, sym, ◌∙◌, arith, rules, Option, Some, None}
+use Rattle.versions.specs.Versions.{Columns, columns, versions_of}
 use Rattle.versions.specs.Laws.{found_version, found_newest, none_found}
 use Rattle.versions.proofs.value_at.Goals as goal
+use Rattle.versions.proofs.value_at.Goals.{In_ok-i}
 
-module _ (cs : Columns) (n k t : ℕ) (r : Option ℕ) (e : r ≡ row_of (newest k t (versions_of n cs))) where
-  within : (i : ℕ) → r ≡ Some i → i < n
-  within i f = (found_newest k t cs n (sym e ∙ f)).row
-
-  value : (i : ℕ) → r ≡ Some i → Some (get_or cs.values i 0) ≡ value_at k t (versions_of n cs)
-  value i f = rw (found_version k t cs n (sym e ∙ f))
-
-  absent : r ≡ None → None ≡ value_at k t (versions_of n cs)
-  absent f = rw (none_found k t cs n (sym e ∙ f))
+row : (c : In_ok-i) → c.in_ok-i.i < c.args.stamps.used
+row c =
+    let a = c.args in
+    let cs = columns a.stamps.keys.now a.stamps.times.now a.values.now [] in
+    let e : c.newest_row.result ≡ Some c.in_ok-i.i = search rules in
+    (found_newest a.k a.t cs a.stamps.used (sym (c.newest_row.ensures cs) ∙ e)).row
 
 pub offset_bounds-values-i : goal.offset_bounds-values-i
-offset_bounds-values-i c =
-    let a = c.args in
-    let cs = columns a.keys.now a.times.now a.values.now [] in
-    omega (arith, within cs a.used a.k a.t _ (c.in-Some.ensures cs) _ refl, c.requires.2)
+offset_bounds-values-i c = omega (arith, row (goal.at.offset_bounds-values-i c).In_ok-i, c.requires)
 
 pub bounds-values-i : goal.bounds-values-i
-bounds-values-i c =
-    let a = c.args in
-    let cs = columns a.keys.now a.times.now a.values.now [] in
-    omega (arith, within cs a.used a.k a.t _ (c.in-Some.ensures cs) _ refl, c.requires.2)
+bounds-values-i c = omega (arith, row (goal.at.bounds-values-i c).In_ok-i, c.requires)
 
-pub returns-in-Some : goal.returns-in-Some
-returns-in-Some c marks =
+pub returns : goal.returns
+returns c marks =
     let a = c.args in
-    let cs = columns a.keys.now a.times.now a.values.now marks in
-    value cs a.used a.k a.t _ (c.in-Some.ensures cs) _ refl
+    let cs = columns a.stamps.keys.now a.stamps.times.now a.values.now marks in
+    let e : c.newest_row.result ≡ Some c.in_ok-i.i = search rules in
+    rw (found_version a.k a.t cs a.stamps.used (sym (c.newest_row.ensures cs) ∙ e)) refl
 
-pub returns-in-None : goal.returns-in-None
-returns-in-None c marks =
+pub returns-in_err-i : goal.returns-in_err-i
+returns-in_err-i c marks =
     let a = c.args in
-    let cs = columns a.keys.now a.times.now a.values.now marks in
-    absent cs a.used a.k a.t _ (c.in-None.ensures cs) refl
+    let cs = columns a.stamps.keys.now a.stamps.times.now a.values.now marks in
+    let e : c.newest_row.result ≡ None = search rules in
+    let z : c.from_residual.result ≡ None = search rules in
+    z ∙ rw (none_found a.k a.t cs a.stamps.used (sym (c.newest_row.ensures cs) ∙ e)) refl

@@ -1,5 +1,4 @@
--- `newest::list::follow` meets its contract. The loop's invariant: the cells passed are followed, the others as they were. The measure is how many
--- are left.
+-- `newest::list::follow` meets its contract. The loop's invariant: the cells passed are followed, the others as they were.
 use mathlib.Core.Path.{◌≡◌, ◌∙◌}
 use mathlib.Core.List.{List, [], ◌∷◌, ◌++◌, append_assoc}
 use Prim.Native.Nat.{ℕ, suc, ◌+◌, ◌<◌}
@@ -37,4 +36,4 @@ pub loop-i-preserved : goal.loop-i-preserved
 loop-i-preserved c =
     let l = c.loop-i in
     let a = c.args in
-    (omega arith, simp length-set l.invariant.1, turn a.values.now a.places.now l.i (omega arith) l.places l.invariant.2)
+    turn a.values.now a.places.now l.i (omega arith) l.places l.invariant

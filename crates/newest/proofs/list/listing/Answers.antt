@@ -9,10 +9,10 @@ pub follow-requires : goal.follow-requires
 follow-requires c =
     let a = c.args in (
       (next_within _ _ _ _ _ _ c.newest_rows-n.ensures).in_values,
-      λ x l. omega (arith, named a.keys.now a.times.now a.t a.used c.newest_rows-n.ensures x l, c.requires.3),
+      λ x l. omega (arith, named a.stamps.keys.now a.stamps.times.now a.t a.stamps.used c.newest_rows-n.ensures x l, c.requires.1),
     )
 
 pub returns : goal.returns
 returns c marks =
     let a = c.args in
-    listed_columns (columns a.keys.now a.times.now a.values.now marks) a.t a.used _ _ _ _ _ _ c.newest_rows-n.ensures c.follow.ensures
+    listed_columns (columns a.stamps.keys.now a.stamps.times.now a.values.now marks) a.t a.stamps.used _ _ _ _ _ _ c.newest_rows-n.ensures c.follow.ensures

@@ -1,4 +1,4 @@
--- `versions::conflict::is_later_among` meets its contract. The loop's invariant: no version of the first i rows is one of k later than s that meets
+-- `Stamps::is_later_among` meets its contract. The loop's invariant: no version of the first i rows is one of k later than s that meets
 -- the transaction. The measure is how many rows are left.
 use mathlib.Core.Path.{◌≡◌, sym, ◌∙◌}
 use mathlib.Core.Bool.{Bool, true, false, not, ◌&&◌}
@@ -9,7 +9,7 @@ use borrow.Author.Tests.{eq-eqb, ne_eqb, lt-ltb, le-ltb}
 use lib.ListN.{get_or}
 use Rattle.versions.specs.Versions.{Columns, columns, version_at, versions_of, is_marked, later}
 use Rattle.versions.specs.Laws.{later_among}
-use Rattle.versions.proofs.conflict.is_later_among.Goals as goal
+use Rattle.versions.proofs.stamps.Stamps.is_later_among.Goals as goal
 
 module _ (cs : Columns) (i k s : ℕ) (adds : Bool) where
   -- the version in row i meets the transaction, if it is one of k and later
@@ -21,20 +21,9 @@ module _ (cs : Columns) (i k s : ℕ) (adds : Bool) where
       let here : later s k adds (versions_of (i + 1) cs) ≡ true = rw (add-one, eq-eqb (get_or cs.keys i 0) k a, lt-ltb s (get_or cs.times i 0) b, m) in
       sym (later_among s k adds (i + 1) n cs (omega arith) here)
 
-  module _ (inv : later s k adds (versions_of i cs) ≡ false) where
-    other : (get_or cs.keys i 0 ≡ k → ⊥) → later s k adds (versions_of (i + 1) cs) ≡ false
-    other a = rw (add-one, ne_eqb (get_or cs.keys i 0) k a) inv
-
-    module _ (a : get_or cs.keys i 0 ≡ k) where
-      early : get_or cs.times i 0 ≤ s → later s k adds (versions_of (i + 1) cs) ≡ false
-      early b = rw (add-one, eq-eqb (get_or cs.keys i 0) k a, le-ltb s (get_or cs.times i 0) b) inv
-
-      excused : s < get_or cs.times i 0 → meets ≡ false → later s k adds (versions_of (i + 1) cs) ≡ false
-      excused b m = rw (add-one, eq-eqb (get_or cs.keys i 0) k a, lt-ltb s (get_or cs.times i 0) b, m) inv
-
 pub returns-then-meets : goal.returns-then-meets
 returns-then-meets c values =
     let l = c.loop-i in
     let a = c.args in
-    hit (columns a.keys.now a.times.now values a.marks.now) l.i a.k a.s a.adds a.to (omega arith) c.if-keys-i.true c.if-times-i.true
+    hit (columns a.self.keys.now a.self.times.now values a.marks.now) l.i a.k a.s a.adds a.to (omega arith) c.if-self-i.true c.if-self-i-2.true
     (sym c.meets.ensures ∙ c.if-meets.true)

@@ -1,4 +1,4 @@
--- `versions::search::newer_row` meets its contract: each way out is the case of `newest_step` that its tests lead to.
+-- `versions::Stamps::newer_row` meets its contract: each way out is the case of `newest_step` that its tests lead to.
 use mathlib.Core.Path.{◌≡◌, sym, ◌∙◌}
 use Prim.Native.Nat.{ℕ, ◌+◌, ◌≤◌, ◌<◌}
 use native.Mathlib.Numerals.{add-one}
@@ -8,7 +8,7 @@ use lib.ListN.{get_or}
 use Rattle.std.specs.Prelude.{Option, Some, None}
 use Rattle.versions.specs.Versions.{Columns, no_columns, keyed, versions_of, newest, row_of}
 use Rattle.versions.specs.Laws.{length_versions, found_version, found_newest, none_found}
-use Rattle.versions.proofs.search.newer_row.Goals as goal
+use Rattle.versions.proofs.stamps.Stamps.newer_row.Goals as goal
 
 module _ (cs : Columns) (i k t : ℕ) (best : Option ℕ) (pre : best ≡ row_of (newest k t (versions_of i cs))) where
   other : (get_or cs.keys i 0 ≡ k → ⊥) → best ≡ row_of (newest k t (versions_of (i + 1) cs))
@@ -55,32 +55,32 @@ module _ (cs : Columns) (i k t : ℕ) (best : Option ℕ) (pre : best ≡ row_of
   within : (j : ℕ) → best ≡ Some j → j < i
   within j e = (found_newest k t cs i (sym pre ∙ e)).row
 
-pub offset_bounds-times-j : goal.offset_bounds-times-j
-offset_bounds-times-j c =
+pub offset_bounds-self-j : goal.offset_bounds-self-j
+offset_bounds-self-j c =
     let a = c.args in
-    let cs = keyed a.keys.now a.times.now no_columns in
-    omega (arith, within cs a.i a.k a.t a.best (c.requires.2 cs) _ c.in-Some.is)
+    let cs = keyed a.self.keys.now a.self.times.now no_columns in
+    omega (arith, within cs a.i a.k a.t a.best (c.requires.1 cs) _ c.in-Some.is)
 
-pub bounds-times-j : goal.bounds-times-j
-bounds-times-j c =
+pub bounds-self-j : goal.bounds-self-j
+bounds-self-j c =
     let a = c.args in
-    let cs = keyed a.keys.now a.times.now no_columns in
-    omega (arith, within cs a.i a.k a.t a.best (c.requires.2 cs) _ c.in-Some.is)
+    let cs = keyed a.self.keys.now a.self.times.now no_columns in
+    omega (arith, within cs a.i a.k a.t a.best (c.requires.1 cs) _ c.in-Some.is)
 
-pub returns-then-times-j : goal.returns-then-times-j
-returns-then-times-j c others =
+pub returns-then-self-j : goal.returns-then-self-j
+returns-then-self-j c others =
     let a = c.args in
-    let cs = keyed a.keys.now a.times.now others in
-    newer cs a.i a.k a.t a.best (c.requires.2 cs) c.if-keys-i.false c.if-times-i.false _ c.in-Some.is c.if-times-j.true
+    let cs = keyed a.self.keys.now a.self.times.now others in
+    newer cs a.i a.k a.t a.best (c.requires.1 cs) c.if-self-i.false c.if-self-i-2.false _ c.in-Some.is c.if-self-j.true
 
-pub returns-else-times-j : goal.returns-else-times-j
-returns-else-times-j c others =
+pub returns-else-self-j : goal.returns-else-self-j
+returns-else-self-j c others =
     let a = c.args in
-    let cs = keyed a.keys.now a.times.now others in
-    not_newer cs a.i a.k a.t a.best (c.requires.2 cs) c.if-keys-i.false c.if-times-i.false _ c.in-Some.is c.if-times-j.false
+    let cs = keyed a.self.keys.now a.self.times.now others in
+    not_newer cs a.i a.k a.t a.best (c.requires.1 cs) c.if-self-i.false c.if-self-i-2.false _ c.in-Some.is c.if-self-j.false
 
 pub returns-in-None : goal.returns-in-None
 returns-in-None c others =
     let a = c.args in
-    let cs = keyed a.keys.now a.times.now others in
-    first cs a.i a.k a.t a.best (c.requires.2 cs) c.if-keys-i.false c.if-times-i.false c.in-None.is
+    let cs = keyed a.self.keys.now a.self.times.now others in
+    first cs a.i a.k a.t a.best (c.requires.1 cs) c.if-self-i.false c.if-self-i-2.false c.in-None.is
