@@ -3,7 +3,7 @@ ghost use Rattle.std.specs.Prelude.{◌≡◌};
 ghost use Rattle.script.specs.Run.{fresh, goes, read, judged_by};
 
 use crate::line;
-use crate::line::Line;
+use crate::line::{Line, Word};
 use crate::play::Play;
 use crate::tally::Tally;
 use answer::shown::Answer;
@@ -23,7 +23,7 @@ impl Run {
     // More turns than a script makes.
     const TURNS: u32 = 1000000;
 
-    pub fn new(store: u32) -> Self
+    pub fn new(store: Word) -> Self
         ensures { result ≡ fresh store }
     {
         Run {
@@ -39,7 +39,7 @@ impl Run {
         ensures { result ≡ goes script.now self }
     {
         let play = self.play;
-        (self.turns < Run::TURNS) & (play.at < script.len())
+        self.turns < Run::TURNS && play.at < script.len()
     }
 
     // The next line is read, and says which follows.

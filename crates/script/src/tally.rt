@@ -2,7 +2,7 @@
 ghost use Rattle.std.specs.Prelude.{◌≡◌};
 ghost use Rattle.script.specs.Tally.{is_wanted, none, counted, judged};
 
-use crate::line::Line;
+use crate::line::{Line, Word};
 use crate::play::Play;
 use crate::say;
 use answer::shown::Answer;
@@ -66,7 +66,7 @@ impl Tally {
     }
 
     // The run is over.
-    pub(crate) fn ended<W: Write>(self, out: &mut W, store: u32) {
+    pub(crate) fn ended<W: Write>(self, out: &mut W, store: Word) {
         say::ended(out, store, self.right, self.wrong);
     }
 }
