@@ -4,6 +4,7 @@ use Rattle.std.proofs.Common.{sym, ◌∙◌}
 use Rattle.answer.specs.declared.shown.Answer.{Answer}
 use Rattle.script.specs.declared.line.Word.{Word}
 use Rattle.script.specs.declared.run.Run.{Run}
+use Rattle.script.specs.Line.{word_of}
 use Rattle.script.specs.Run.{fresh, goes, read, judged_by}
 use Rattle.script.specs.Rows.{most_lent, told}
 
@@ -27,3 +28,7 @@ lent_unique count p q = p ∙ sym q
 pub told_unique : (answer : Answer) (keys values : List ℕ) (row : ℕ) {r r' : Answer} → r ≡ told answer keys values row
     → r' ≡ told answer keys values row → r ≡ r'
 told_unique answer keys values row p q = p ∙ sym q
+
+-- the word of a number
+pub word_unique : (letters : ℕ) {r r' : Word} → r ≡ word_of letters → r' ≡ word_of letters → r ≡ r'
+word_unique letters p q = p ∙ sym q
