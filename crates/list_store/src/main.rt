@@ -8,24 +8,25 @@ ghost use Rattle.list_store.specs.Text.{ReportedFrom, Output, ending_of};
 
 use journal::Base;
 use journal_store::Head;
-use std::io::Write;
-use store_file::Opened;
-use streams::input::Input;
 use streams::{input, output};
 
 // What the file gave: a listing, a refusal by the store, or no whole store.
-#[derive(Clone, Copy)]
+#[derive(Clone, Copy, Debug, PartialEq, Eq)]
 enum Ending {
     Listed,
     Refused,
     Broken,
 }
 
-// The length of the text, and what it is.
-#[derive(Clone, Copy)]
-struct Told {
-    count: usize,
-    ending: Ending,
+impl Ending {
+    // The line that says it on standard error.
+    fn line(self) -> &'static [u8] {
+        match self {
+            Ending::Listed => b"listing: listed\n",
+            Ending::Refused => b"listing: the store refuses this file\n",
+            Ending::Broken => b"listing: this file is no whole store\n",
+        }
+    }
 }
 
 // The report of a head, its base and the journal that stands in a file from a byte on.
@@ -52,71 +53,33 @@ fn report_from(
     )
 }
 
-// The text for the bytes of a file. That of a refusal alone starts with an r.
-fn report_on(file: &mut [u8], text: &mut [u8]) -> Told
+// The text for the bytes of a file: its length, and what it is. That of a refusal alone starts with an r.
+fn report_on(file: &mut [u8], text: &mut [u8]) -> (usize, Ending)
     requires { text_bytes ≤ length text.old }
-    ensures output { Output file.old text.old result.count file.new text.new }
-    ensures ending_value { result.ending ≡ ending_of file.old }
+    ensures output { Output file.old text.old result.0 file.new text.new }
+    ensures ending_value { result.1 ≡ ending_of file.old }
 {
     let mut keys = [0u32; Base::ROWS];
     let mut values = [0u32; Base::ROWS];
-    let opened = store_file::open(file, &mut keys, &mut values);
-    match opened {
-        Opened::Broken => {
-            let line = report::put(text, 0, b"no whole store\n");
-            Told {
-                count: line,
-                ending: Ending::Broken,
-            }
-        }
-        Opened::Whole(head, start) => {
-            let count = report_from(head, &keys, &values, file, start, text);
-            if text[0] == b'r' {
-                return Told {
-                    count,
-                    ending: Ending::Refused,
-                };
-            }
-            Told {
-                count,
-                ending: Ending::Listed,
-            }
-        }
+    let Some((head, start)) = store_file::open(file, &mut keys, &mut values) else {
+        return (report::put(text, 0, b"no whole store\n"), Ending::Broken);
+    };
+    let count = report_from(head, &keys, &values, file, start, text);
+    if text[0] == b'r' {
+        return (count, Ending::Refused);
     }
-}
-
-// The text to standard output, and the line that belongs to it.
-fn print<O: Write, E: Write>(out: &mut O, error: &mut E, text: &[u8], ending: Ending) {
-    match ending {
-        Ending::Listed => output::print(out, error, text, b"listing: listed\n"),
-        Ending::Refused => output::print(
-            out,
-            error,
-            text,
-            b"listing: the store refuses this file\n",
-        ),
-        Ending::Broken => output::print(
-            out,
-            error,
-            text,
-            b"listing: this file is no whole store\n",
-        ),
-    }
+    (count, Ending::Listed)
 }
 
 // It tries to read one byte more than recovery takes, so that a longer input is refused.
 fn main(rt: HostRuntime) {
     let mut error = rt.stderr();
-    let mut buffer = [0u8; Opened::BYTES + 1];
-    let input = input::read_all(&mut rt.stdin(), &mut buffer);
-    match input {
-        Input::Failed => output::say(&mut error, b"listing: the store could not be read\n"),
-        Input::Ended(bytes) => {
-            let mut text = [0u8; report::TEXT];
-            let told = report_on(&mut buffer[..bytes], &mut text);
-            let count = told.count;
-            let ending = told.ending;
-            print(&mut rt.stdout(), &mut error, &text[..count], ending);
-        }
-    }
+    let mut buffer = [0u8; store_file::BYTES + 1];
+    let Ok(bytes) = input::read_all(&mut rt.stdin(), &mut buffer) else {
+        output::say(&mut error, b"listing: the store could not be read\n");
+        return;
+    };
+    let mut text = [0u8; report::TEXT];
+    let (count, ending) = report_on(&mut buffer[..bytes], &mut text);
+    output::print(&mut rt.stdout(), &mut error, &text[..count], ending.line());
 }

@@ -1,7 +1,11 @@
 -- A line of the script: what each byte of it adds to what was read, and the line that was read at its end. Assumes nothing.
-use Rattle.std.specs.Prelude.{ℕ, zero, suc, ◌+◌, ◌-◌, ◌*◌, ◌%◌, ◌^◌, Bool, true, false, cond, ◌||◌, List, length, replicate, ◌==◌, nat_le, nat_lt, slice_index, slice_set}
+use Rattle.std.specs.Prelude.{ℕ, zero, suc, ◌+◌, ◌-◌, ◌*◌, ◌%◌, ◌^◌, Bool, true, false, cond, List, length, replicate, ◌==◌, nat_le, nat_lt, slice_index, slice_set}
+use denote.Enum.Bare.{sameb}
 use Rattle.script.specs.declared.line.Call.{Call}
 use Rattle.script.specs.declared.line.Line.{Line}
+use Rattle.script.specs.declared.line.Word.{Word}
+use Rattle.script.specs.declared.line.Word.TheVariants as words
+use Rattle.script.specs.contracts.line.Word.{the_type}
 use Rattle.script.specs.declared.line.Reading.{Reading}
 
 -- how many numbers a line has
@@ -47,11 +51,57 @@ taken r byte x =
     (cond (nat_le byte 57) (counted r (byte - 48))
     (spelt r byte)))))))
 
+-- the number of a word: its last three letters
+abbrev pub spelling : ℕ → ℕ → ℕ → ℕ
+spelling a b c = (a * 256 + b) * 256 + c
+
+-- the word that a number spells, of which 0 spells none: gin, ign, add, ort, mit, ead, kup, ist, int and ver are the calls, ore and ill what else is
+-- done to a store, ach, ain and hen tell of the lines behind, and oth, nal, map, gle, row and ong the stores that they are for
+unfoldable pub word_of : ℕ → Word
+word_of w =
+    cond (w == 0) words.Missing
+    (cond (w == spelling 103 105 110) words.Begin
+    (cond (w == spelling 105 103 110) words.Assign
+    (cond (w == spelling 97 100 100) words.Add
+    (cond (w == spelling 111 114 116) words.Abort
+    (cond (w == spelling 109 105 116) words.Commit
+    (cond (w == spelling 101 97 100) words.Read
+    (cond (w == spelling 107 117 112) words.Lookup
+    (cond (w == spelling 105 115 116) words.List
+    (cond (w == spelling 105 110 116) words.Checkpoint
+    (cond (w == spelling 118 101 114) words.Recover
+    (cond (w == spelling 111 114 101) words.Store
+    (cond (w == spelling 105 108 108) words.Fill
+    (cond (w == spelling 97 99 104) words.Each
+    (cond (w == spelling 97 105 110) words.Again
+    (cond (w == spelling 104 101 110) words.When
+    (cond (w == spelling 111 116 104) words.Both
+    (cond (w == spelling 110 97 108) words.Journal
+    (cond (w == spelling 109 97 112) words.Map
+    (cond (w == spelling 103 108 101) words.Single
+    (cond (w == spelling 114 111 119) words.Narrow
+    (cond (w == spelling 111 110 103) words.Long
+    words.Other)))))))))))))))))))))
+
+-- both, journal, map, single, narrow, long
+abbrev pub names_stores : Word → Bool
+names_stores words.Both = true
+names_stores words.Journal = true
+names_stores words.Map = true
+names_stores words.Single = true
+names_stores words.Narrow = true
+names_stores words.Long = true
+names_stores _ = false
+
+-- one word is another
+abbrev pub is_word : Word → Word → Bool
+is_word = sameb the_type
+
 -- what was read asks: the numbers whole, and their last 32 bits
 abbrev pub call_of : Reading → Call
 call_of r =
     record {
-      word = r.word;
+      word = word_of r.word;
       a = slice_index r.numbers 0;
       b = slice_index r.numbers 1;
       c = slice_index r.numbers 2;
@@ -82,23 +132,3 @@ read_on script start x r i (suc left) =
 -- the line that starts at a place, in which x stands for a number
 unfoldable pub line_at : List ℕ → ℕ → ℕ → Line
 line_at script start x = read_on script start x (blank false) start (length script - start)
-
--- the number of a word: its last three letters
-abbrev pub spelling : ℕ → ℕ → ℕ → ℕ
-spelling a b c = (a * 256 + b) * 256 + c
-
--- oth, nal and map: the words that say for which stores lines are, and the others are gle, row and ong
-abbrev pub both_word : ℕ
-both_word = spelling 111 116 104
-
-abbrev pub journal_word : ℕ
-journal_word = spelling 110 97 108
-
-abbrev pub map_word : ℕ
-map_word = spelling 109 97 112
-
--- both, journal, map, single, narrow, long
-abbrev pub names_stores : ℕ → Bool
-names_stores w =
-    ((((w == both_word || w == journal_word) || w == map_word) || w == spelling 103 108 101) || w == spelling 114 111 119)
-    || w == spelling 111 110 103

@@ -1,11 +1,13 @@
 -- Where a run of the script stands: what a line says of the lines behind it. Assumes nothing.
-use Rattle.std.specs.Prelude.{ℕ, ◌+◌, ◌%◌, ◌^◌, Bool, false, cond, not, ◌&&◌, ◌||◌, ltb, ◌==◌, nat_lt}
+use Rattle.std.specs.Prelude.{ℕ, ◌+◌, ◌%◌, ◌^◌, Bool, false, cond, not, ◌&&◌, ◌||◌, ltb, nat_lt}
 use Rattle.script.specs.declared.line.Call.{Call}
 use Rattle.script.specs.declared.play.Play.{Play}
-use Rattle.script.specs.Line.{spelling, both_word, journal_word, map_word, names_stores}
+use Rattle.script.specs.declared.line.Word.{Word}
+use Rattle.script.specs.declared.line.Word.TheVariants.{Each, Again, When, Both, Journal, Map, Missing}
+use Rattle.script.specs.Line.{is_word, names_stores}
 
 -- nothing is played yet
-abbrev pub started : ℕ → Play
+abbrev pub started : Word → Play
 started word = record { store = word; at = 0; first = 0; x = 0; last = 0; upto = 0; passed = false; on = false; asks = false }
 
 -- behind a line that ends at a place
@@ -59,10 +61,10 @@ again p =
     }
 
 -- whether lines behind the word of some stores are for a store
-abbrev pub is_for : ℕ → ℕ → Bool
-is_for word store = store == word || (word == both_word && (store == journal_word || store == map_word))
+abbrev pub is_for : Word → Word → Bool
+is_for word store = is_word store word || (is_word word Both && (is_word store Journal || is_word store Map))
 
-abbrev pub meant : Play → ℕ → Play
+abbrev pub meant : Play → Word → Play
 meant p word =
     record {
       store = p.store;
@@ -77,7 +79,7 @@ meant p word =
     }
 
 -- a word that says nothing of other lines
-abbrev pub asking : Play → ℕ → Play
+abbrev pub asking : Play → Word → Play
 asking p word =
     record {
       store = p.store;
@@ -88,16 +90,16 @@ asking p word =
       upto = p.upto;
       passed = p.passed;
       on = p.on;
-      asks = (p.on && not p.passed) && not (word == 0);
+      asks = (p.on && not p.passed) && not (is_word word Missing);
     }
 
--- after a line: its word ends in ach (each), hen (when), ain (again), names stores, or asks something
+-- after a line: its word is each, when or again, names stores, or asks something
 abbrev pub after : Play → Call → ℕ → Play
 after p call stop =
     let w = call.word in
     let q = passed_line p stop in
-    cond (w == spelling 97 99 104) (each q call.a call.b)
-    (cond (w == spelling 104 101 110) (when q call.a call.b)
-    (cond (w == spelling 97 105 110) (again q)
+    cond (is_word w Each) (each q call.a call.b)
+    (cond (is_word w When) (when q call.a call.b)
+    (cond (is_word w Again) (again q)
     (cond (names_stores w) (meant q w)
     (asking q w))))

@@ -1,6 +1,7 @@
 -- A run of the script on a store. Assumes nothing.
 use Rattle.std.specs.Prelude.{ℕ, ◌+◌, ◌-◌, ◌%◌, ◌^◌, Bool, false, ◌&&◌, List, length, nat_lt}
 use Rattle.answer.specs.declared.shown.Answer.{Answer}
+use Rattle.script.specs.declared.line.Word.{Word}
 use Rattle.script.specs.declared.run.Run.{Run}
 use Rattle.script.specs.Line.{blank, line_of, line_at}
 use Rattle.script.specs.Play.{started, after}
@@ -11,7 +12,7 @@ abbrev pub most_turns : ℕ
 most_turns = 1000000
 
 -- nothing is read yet
-abbrev pub fresh : ℕ → Run
+abbrev pub fresh : Word → Run
 fresh store = record { play = started store; line = line_of (blank false) 0 0; tally = none; turns = 0 }
 
 -- a line is left

@@ -2,13 +2,15 @@
 use Rattle.std.specs.Prelude.{◌≡◌, ℕ, min, Bool, List}
 use Rattle.std.proofs.Common.{sym, ◌∙◌}
 use Rattle.answer.specs.declared.shown.Answer.{Answer}
+use Rattle.script.specs.declared.line.Word.{Word}
 use Rattle.script.specs.declared.run.Run.{Run}
+use Rattle.script.specs.Line.{word_of}
 use Rattle.script.specs.Run.{fresh, goes, read, judged_by}
 use Rattle.script.specs.Rows.{most_lent, told}
 
 -- a run at first, whether a line is left, and after a line and its answer
-pub run_unique : (store : ℕ) {r r' : Run} → r ≡ fresh store → r' ≡ fresh store → r ≡ r'
-run_unique store p q = p ∙ sym q
+pub run_unique : (w : Word) {r r' : Run} → r ≡ fresh w → r' ≡ fresh w → r ≡ r'
+run_unique w p q = p ∙ sym q
 
 pub goes_unique : (script : List ℕ) (run : Run) {r r' : Bool} → r ≡ goes script run → r' ≡ goes script run → r ≡ r'
 goes_unique script run p q = p ∙ sym q
@@ -26,3 +28,7 @@ lent_unique count p q = p ∙ sym q
 pub told_unique : (answer : Answer) (keys values : List ℕ) (row : ℕ) {r r' : Answer} → r ≡ told answer keys values row
     → r' ≡ told answer keys values row → r ≡ r'
 told_unique answer keys values row p q = p ∙ sym q
+
+-- the word of a number
+pub word_unique : (letters : ℕ) {r r' : Word} → r ≡ word_of letters → r' ≡ word_of letters → r ≡ r'
+word_unique letters p q = p ∙ sym q

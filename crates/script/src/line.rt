@@ -1,13 +1,43 @@
 // A line of the script, read byte by byte.
 ghost use Rattle.std.specs.Prelude.{◌≡◌, false};
-ghost use Rattle.script.specs.Line.{blank, spelt, noted, counted, moved_to, closed, taken, call_of, names_stores, line_of, line_at};
+ghost use Rattle.script.specs.Line.{word_of, blank, spelt, noted, counted, moved_to, closed, taken, call_of, names_stores, line_of, line_at};
 
 use std::num::{wrapping_add_u64, wrapping_add_usize};
+
+// What a line's word says. First the calls; then what else can be done to a store, to begin with an empty one and to put bytes into its journal; then
+// what a line says of the lines behind it: which are repeated, for which x they are, and for which stores: for the journal store and the map store,
+// for one of the two, or for a journal store with less room or all the room there can be. Last any other word, and none.
+#[derive(Clone, Copy, Debug, PartialEq, Eq)]
+pub enum Word {
+    Begin,
+    Assign,
+    Add,
+    Abort,
+    Commit,
+    Read,
+    Lookup,
+    List,
+    Checkpoint,
+    Recover,
+    Store,
+    Fill,
+    Each,
+    Again,
+    When,
+    Both,
+    Journal,
+    Map,
+    Single,
+    Narrow,
+    Long,
+    Other,
+    Missing,
+}
 
 // What a line asks of a store: a word, and up to three numbers, as times or counts and as numbers of transactions, keys and values.
 #[derive(Clone, Copy)]
 pub struct Call {
-    pub word: u32,
+    pub word: Word,
     pub a: u64,
     pub b: u64,
     pub c: u64,
@@ -29,7 +59,7 @@ pub struct Line {
     pub end: usize,
 }
 
-// What is read of a line: its word and its numbers, the place of the next one, and whether it has begun.
+// What is read of a line: the last letters of its word and its numbers, the place of the next one, and whether it has begun.
 #[derive(Clone, Copy)]
 pub struct Reading {
     word: u32,
@@ -39,68 +69,55 @@ pub struct Reading {
     named: bool,
 }
 
+impl Word {
+    // Whether it says for which stores the lines behind it are.
+    pub(crate) fn names_stores(self) -> bool
+        ensures { result ≡ names_stores self }
+    {
+        matches!(
+            self,
+            Word::Both | Word::Journal | Word::Map | Word::Single | Word::Narrow | Word::Long
+        )
+    }
+}
+
+impl From<u32> for Word {
+    // A word is told by its last three letters, which are the bytes of the number.
+    #[tactic(auto, unfolding(crate::specs::Line::word_of))]
+    fn from(letters: u32) -> Word
+        ensures { result ≡ word_of letters }
+    {
+        match letters {
+            0 => Word::Missing,
+            0x67696e => Word::Begin,
+            0x69676e => Word::Assign,
+            0x616464 => Word::Add,
+            0x6f7274 => Word::Abort,
+            0x6d6974 => Word::Commit,
+            0x656164 => Word::Read,
+            0x6b7570 => Word::Lookup,
+            0x697374 => Word::List,
+            0x696e74 => Word::Checkpoint,
+            0x766572 => Word::Recover,
+            0x6f7265 => Word::Store,
+            0x696c6c => Word::Fill,
+            0x616368 => Word::Each,
+            0x61696e => Word::Again,
+            0x68656e => Word::When,
+            0x6f7468 => Word::Both,
+            0x6e616c => Word::Journal,
+            0x6d6170 => Word::Map,
+            0x676c65 => Word::Single,
+            0x726f77 => Word::Narrow,
+            0x6f6e67 => Word::Long,
+            _ => Word::Other,
+        }
+    }
+}
+
 impl Call {
-    // A word is told by its last three letters, which are the bytes of its number. First the calls.
-    pub const BEGIN: u32 = 0x67696e;
-
-    pub const ASSIGN: u32 = 0x69676e;
-
-    pub const ADD: u32 = 0x616464;
-
-    pub const ABORT: u32 = 0x6f7274;
-
-    pub const COMMIT: u32 = 0x6d6974;
-
-    pub const READ: u32 = 0x656164;
-
-    pub const LOOKUP: u32 = 0x6b7570;
-
-    pub const LIST: u32 = 0x697374;
-
-    pub const CHECKPOINT: u32 = 0x696e74;
-
-    pub const RECOVER: u32 = 0x766572;
-
-    // What else can be done to a store: begin with an empty one, and put bytes into its journal.
-    pub const STORE: u32 = 0x6f7265;
-
-    pub const FILL: u32 = 0x696c6c;
-
     // What a line is answered whose word is no call of the store: no line wants this number.
     pub const NO_CALL: u32 = 99;
-
-    // What a line says of the lines behind it: which are repeated, for which x they are, and for which stores: for the journal store and the map
-    // store, for one of the two, or for a journal store with less room or all the room there can be.
-    pub const EACH: u32 = 0x616368;
-
-    pub const AGAIN: u32 = 0x61696e;
-
-    pub const WHEN: u32 = 0x68656e;
-
-    pub const BOTH: u32 = 0x6f7468;
-
-    pub const JOURNAL: u32 = 0x6e616c;
-
-    pub const MAP: u32 = 0x6d6170;
-
-    pub const SINGLE: u32 = 0x676c65;
-
-    pub const NARROW: u32 = 0x726f77;
-
-    pub const LONG: u32 = 0x6f6e67;
-
-    // Whether its word says for which stores the lines behind it are.
-    pub(crate) fn names_stores(self) -> bool
-        ensures { result ≡ names_stores self.word }
-    {
-        let word = self.word;
-        (word == Call::BOTH)
-            | (word == Call::JOURNAL)
-            | (word == Call::MAP)
-            | (word == Call::SINGLE)
-            | (word == Call::NARROW)
-            | (word == Call::LONG)
-    }
 }
 
 impl Reading {
@@ -218,7 +235,7 @@ impl Reading {
         let b = numbers[1];
         let c = numbers[2];
         Call {
-            word: self.word,
+            word: Word::from(self.word),
             a,
             b,
             c,
@@ -258,13 +275,11 @@ pub(crate) fn read(script: &[u8], from: usize, x: u64) -> Line
     ensures { result ≡ line_at script.now from x }
 {
     let mut reading = Reading::new(false);
-    let mut i = from;
-    while i < script.len() {
+    for i in from..script.len() {
         if script[i] == b'\n' {
-            break;
+            return reading.closed().line(from, i);
         }
         reading = reading.taken(script[i], x);
-        i += 1;
     }
-    reading.closed().line(from, i)
+    reading.closed().line(from, from.max(script.len()))
 }

@@ -2,14 +2,14 @@
 ghost use Rattle.std.specs.Prelude.{◌≡◌};
 ghost use Rattle.script.specs.Play.{started, passed_line, each, when, again, meant, asking, after};
 
-use crate::line::Call;
+use crate::line::{Call, Word};
 use std::num::{wrapping_add_u64, wrapping_add_usize};
 
 // The store's word and the next line; the block that is repeated, from its first line on, for each x up to the last; up to which x the lines behind
 // a `when` run, and whether they are passed over now; whether lines are for this store; whether the line before the next asks something of it.
 #[derive(Clone, Copy)]
 pub struct Play {
-    pub store: u32,
+    pub store: Word,
     pub at: usize,
     first: usize,
     pub x: u64,
@@ -21,7 +21,7 @@ pub struct Play {
 }
 
 impl Play {
-    pub(crate) fn new(store: u32) -> Self
+    pub(crate) fn new(store: Word) -> Self
         ensures { result ≡ started store }
     {
         Play {
@@ -62,7 +62,7 @@ impl Play {
         ensures { result ≡ when self a b }
     {
         self.upto = b;
-        self.passed = (self.x < a) | (b < self.x);
+        self.passed = self.x < a || b < self.x;
         self
     }
 
@@ -80,20 +80,20 @@ impl Play {
     }
 
     // The lines that follow are for some stores.
-    fn meant(mut self, word: u32) -> Self
+    fn meant(mut self, word: Word) -> Self
         ensures { result ≡ meant self word }
     {
         let store = self.store;
-        let either = (store == Call::JOURNAL) | (store == Call::MAP);
-        self.on = (store == word) | (word == Call::BOTH) & either;
+        let either = matches!(store, Word::Journal | Word::Map);
+        self.on = store == word || word == Word::Both && either;
         self
     }
 
     // A line that says nothing of others asks something, if it has a word and is for this store and this x.
-    fn asking(mut self, word: u32) -> Self
+    fn asking(mut self, word: Word) -> Self
         ensures { result ≡ asking self word }
     {
-        self.asks = self.on & !self.passed & (word != 0);
+        self.asks = self.on && !self.passed && word != Word::Missing;
         self
     }
 
@@ -102,19 +102,12 @@ impl Play {
         ensures { result ≡ after self call end }
     {
         let play = self.moved(end);
-        let word = call.word;
-        if word == Call::EACH {
-            return play.each(call.a, call.b);
+        match call.word {
+            Word::Each => play.each(call.a, call.b),
+            Word::When => play.when(call.a, call.b),
+            Word::Again => play.again(),
+            word if word.names_stores() => play.meant(word),
+            word => play.asking(word),
         }
-        if word == Call::WHEN {
-            return play.when(call.a, call.b);
-        }
-        if word == Call::AGAIN {
-            return play.again();
-        }
-        if call.names_stores() {
-            return play.meant(word);
-        }
-        play.asking(word)
     }
 }

@@ -1,14 +1,26 @@
-// A run of the script on a store, of which a trial makes the calls.
+// A run of the script on a store.
 ghost use Rattle.std.specs.Prelude.{◌≡◌};
 ghost use Rattle.script.specs.Run.{fresh, goes, read, judged_by};
 
 use crate::line;
-use crate::line::Line;
+use crate::line::{Call, Line, Word};
 use crate::play::Play;
 use crate::tally::Tally;
 use answer::shown::Answer;
 use std::io::Write;
 use std::num::wrapping_add_u32;
+
+// Bytes enough for a script.
+pub const SCRIPT: usize = 32768;
+
+// A store that a trial makes calls of.
+pub trait Store {
+    // What a line asks is done, and answered.
+    fn turn(&mut self, call: Call) -> Answer;
+
+    // A sum of the head and all cells.
+    fn sum(&self) -> u64;
+}
 
 // Where it stands, the line that was read last, what came of the lines before it, and how many were read.
 #[derive(Clone, Copy)]
@@ -23,7 +35,7 @@ impl Run {
     // More turns than a script makes.
     const TURNS: u32 = 1000000;
 
-    pub fn new(store: u32) -> Self
+    pub fn new(store: Word) -> Self
         ensures { result ≡ fresh store }
     {
         Run {
@@ -38,8 +50,7 @@ impl Run {
     pub fn goes(self, script: &[u8]) -> bool
         ensures { result ≡ goes script.now self }
     {
-        let play = self.play;
-        (self.turns < Run::TURNS) & (play.at < script.len())
+        self.turns < Run::TURNS && self.play.at < script.len()
     }
 
     // The next line is read, and says which follows.
@@ -47,13 +58,12 @@ impl Run {
         ensures { result ≡ read script.now self }
     {
         let play = self.play;
-        let tally = self.tally;
         let line = line::read(script, play.at, play.x);
         Run {
             play: play.after(line.call, line.end),
             line,
-            tally,
             turns: wrapping_add_u32(self.turns, 1),
+            ..self
         }
     }
 
@@ -61,21 +71,27 @@ impl Run {
     pub fn judged<W: Write>(self, out: &mut W, script: &[u8], answer: Answer, sum: u64) -> Self
         ensures { result ≡ judged_by self answer sum }
     {
-        let tally = self.tally;
-        let play = self.play;
-        let line = self.line;
-        Run {
-            play,
-            line,
-            tally: tally.judged(out, script, play, line, answer, sum),
-            turns: self.turns,
-        }
+        let tally = self
+            .tally
+            .judged(out, script, self.play, self.line, answer, sum);
+        Run { tally, ..self }
     }
 
     // The run is over.
     pub fn ended<W: Write>(self, out: &mut W) {
-        let play = self.play;
-        let tally = self.tally;
-        tally.ended(out, play.store);
+        self.tally.ended(out, self.play.store);
     }
+}
+
+// The script on a store, for which the lines behind its word are.
+pub fn follow<W: Write, S: Store>(out: &mut W, script: &[u8], word: Word, store: &mut S) {
+    let mut run = Run::new(word);
+    while run.goes(script) {
+        run = run.read(script);
+        if run.play.asks {
+            let answer = store.turn(run.line.call);
+            run = run.judged(out, script, answer, store.sum());
+        }
+    }
+    run.ended(out);
 }

@@ -1,5 +1,5 @@
 // What a trial writes. Where that fails, there is nobody to tell.
-use crate::line::{Call, Line};
+use crate::line::{Line, Word};
 use crate::play::Play;
 use answer::shown::Answer;
 use std::io::Write;
@@ -9,8 +9,8 @@ use streams::output::write_all;
 const NUMBER: usize = 21;
 
 // A text of a store.
-fn text<W: Write>(out: &mut W, store: u32, text: &[u8]) {
-    if store == Call::MAP {
+fn text<W: Write>(out: &mut W, store: Word, text: &[u8]) {
+    if store == Word::Map {
         write_all(out, b"map: ");
     } else {
         write_all(out, b"journal: ");
@@ -19,7 +19,7 @@ fn text<W: Write>(out: &mut W, store: u32, text: &[u8]) {
 }
 
 // The text of a line of the script.
-fn line<W: Write>(out: &mut W, store: u32, script: &[u8], from: usize, end: usize) {
+fn line<W: Write>(out: &mut W, store: Word, script: &[u8], from: usize, end: usize) {
     if from > end {
         return;
     }
@@ -58,7 +58,7 @@ pub(crate) fn answered<W: Write>(
         numbers(out, answer.number as u64, answer.value);
         return;
     }
-    if asked.named & (play.x >= play.upto) {
+    if asked.named && play.x >= play.upto {
         line(out, play.store, script, asked.from, asked.end);
         write_all(out, b" ok\n");
     }
@@ -73,7 +73,7 @@ pub(crate) fn kept<W: Write>(out: &mut W, script: &[u8], play: Play, asked: Line
 }
 
 // How many lines went as they must, and how many not.
-pub(crate) fn ended<W: Write>(out: &mut W, store: u32, right: u64, wrong: u64) {
+pub(crate) fn ended<W: Write>(out: &mut W, store: Word, right: u64, wrong: u64) {
     text(out, store, b"answers as wanted, and others:");
     numbers(out, right, wrong);
 }

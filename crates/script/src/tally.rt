@@ -2,7 +2,7 @@
 ghost use Rattle.std.specs.Prelude.{◌≡◌};
 ghost use Rattle.script.specs.Tally.{is_wanted, none, counted, judged};
 
-use crate::line::Line;
+use crate::line::{Line, Word};
 use crate::play::Play;
 use crate::say;
 use answer::shown::Answer;
@@ -35,14 +35,14 @@ impl Tally {
         if right {
             return Tally {
                 right: wrapping_add_u64(self.right, 1),
-                wrong: self.wrong,
                 sum,
+                ..self
             };
         }
         Tally {
-            right: self.right,
             wrong: wrapping_add_u64(self.wrong, 1),
             sum,
+            ..self
         }
     }
 
@@ -59,14 +59,14 @@ impl Tally {
         ensures { result ≡ judged self line answer sum }
     {
         let right = is_wanted(answer, line);
-        let kept = (answer.number == 0) | (sum == self.sum);
+        let kept = answer.number == 0 || sum == self.sum;
         say::answered(out, script, play, line, answer, right);
         say::kept(out, script, play, line, kept);
-        self.counted(right & kept, sum)
+        self.counted(right && kept, sum)
     }
 
     // The run is over.
-    pub(crate) fn ended<W: Write>(self, out: &mut W, store: u32) {
+    pub(crate) fn ended<W: Write>(self, out: &mut W, store: Word) {
         say::ended(out, store, self.right, self.wrong);
     }
 }
@@ -75,7 +75,7 @@ impl Tally {
 fn is_wanted(answer: Answer, line: Line) -> bool
     ensures { result ≡ is_wanted answer line }
 {
-    (answer.number as u64 == line.number)
-        & (answer.present == line.present)
-        & (answer.value == line.value)
+    answer.number as u64 == line.number
+        && answer.present == line.present
+        && answer.value == line.value
 }

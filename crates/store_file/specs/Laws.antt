@@ -1,16 +1,14 @@
 -- Laws of the layout: the check sum tells a change of any one byte, a column has as many numbers as there are rows, and what a whole store's bytes
 -- say of its lengths. Assumes nothing.
-use Rattle.std.specs.Prelude.{◌≡◌, ℕ, zero, suc, ◌+◌, ◌*◌, ◌/◌, ◌%◌, ◌^◌, ◌<◌, ◌≤◌, true, false, ◌&&◌, List, [], ◌∷◌, ◌++◌, length, take, drop, nat_eq, nat_le, refl}
+use Rattle.std.specs.Prelude.{◌≡◌, ℕ, zero, suc, ◌+◌, ◌*◌, ◌/◌, ◌%◌, ◌^◌, ◌<◌, ◌≤◌, true, false, ◌&&◌, List, [], ◌∷◌, ◌++◌, length, take, drop, nat_eq, nat_le, refl, Some, None}
 use Rattle.std.proofs.Common.{sym, ap, ◌∙◌, add-mul, mul_right_comm, mod-eq_of_lt, arith, length-append, take_at, leb-true, eqb-true}
 use Rattle.std.proofs.Math.Nat.{mod-add-div', add-mul-mod_self_right}
 use Rattle.rules.specs.Bools.{split, and_left, and_right}
 use Rattle.rules.specs.Limits.{most_rows}
 use Rattle.record.specs.Bytes.{le, field_at}
 use Rattle.journal_store.specs.declared.Head.{Head}
-use Rattle.store_file.specs.declared.Opened.{Opened}
-use Rattle.store_file.specs.declared.Opened.TheVariants.{Whole, Broken}
 use Rattle.store_file.specs.Layout.{signature, head_bytes, sum_bytes, base_row_bytes, row_count, base_end, journal_at, sum_start, sum_factor, sum_from, sum_of, is_whole, head_of, column_of, base_keys, base_values}
-use Rattle.store_file.specs.Opened.{OpenedBy}
+use Rattle.store_file.specs.Opened.{Opened, OpenedBy}
 
 -- a sum goes on from the sum of what came before
 sum_append : (s : ℕ) (a b : List ℕ) → sum_from s (a ++ b) ≡ sum_from (sum_from s a) b
@@ -91,7 +89,7 @@ whole_file file e =
       summed = eqb-true _ _ (and_right d f e3);
     }
 
--- what a caller of `open` knows of the answer Whole: the head, the journal's place, and the base at the front of its columns
+-- what a caller of `open` knows of the answer for a whole store: the head, the journal's place, and the base at the front of its columns
 pub record WholeAt (file keys' values' : List ℕ) (h : Head) (start : ℕ) : Type 0 where
   pub whole : is_whole file ≡ true
   pub headed : h ≡ head_of file
@@ -107,18 +105,19 @@ never : {P : Type 0} → ◌≡◌ {A = ℕ} 0 1 → P
 never z = absurd (omega arith)
 
 module _ {file keys values keys' values' : List ℕ} {r : Opened} (o : OpenedBy file keys values r keys' values') where
-  pub opened_broken : r ≡ Broken → is_whole file ≡ false
+  pub opened_broken : r ≡ None → is_whole file ≡ false
   opened_broken e = split (is_whole file) (λ w. let a = rw w at o.answer in never (cc)) (λ w. w)
 
-  pub opened_whole : (h : Head) (start : ℕ) → r ≡ Whole h start → WholeAt file keys' values' h start
+  pub opened_whole : (h : Head) (start : ℕ) → r ≡ Some (h, start) → WholeAt file keys' values' h start
   opened_whole h start e =
       split (is_whole file)
       (λ w.
-      let a : r ≡ Whole (head_of file) (journal_at file) = rw w at o.answer in
+      let a : r ≡ Some (head_of file, journal_at file) = rw w at o.answer in
+      let q : ◌≡◌ {A = Head × ℕ} (h, start) (head_of file, journal_at file) = cc in
       let k : keys' ≡ base_keys file ++ drop (row_count file) keys = rw w at o.keys_column in
       let v : values' ≡ base_values file ++ drop (row_count file) values = rw w at o.values_column in
-      let f : h ≡ head_of file = cc in
-      let n : start ≡ journal_at file = cc in
+      let f : h ≡ head_of file = ap (λ (p : Head × ℕ). p.0) q in
+      let n : start ≡ journal_at file = ap (λ (p : Head × ℕ). p.1) q in
       let c : h.base.rows ≡ row_count file = ap (λ (x : Head). x.base.rows) f in
       record {
         whole = w;

@@ -1,12 +1,14 @@
 -- What `open` promises: its answer, and every cell of the two lent columns. Assumes nothing.
-use Rattle.std.specs.Prelude.{◌≡◌, ℕ, cond, List, ◌++◌, drop}
-use Rattle.store_file.specs.declared.Opened.{Opened}
-use Rattle.store_file.specs.declared.Opened.TheVariants.{Whole, Broken}
+use Rattle.std.specs.Prelude.{◌≡◌, ℕ, cond, List, ◌++◌, drop, Option, Some, None}
+use Rattle.journal_store.specs.declared.Head.{Head}
 use Rattle.store_file.specs.Layout.{row_count, journal_at, is_whole, head_of, base_keys, base_values}
 
--- the head and where the journal starts, or no whole store
+-- the head of a whole store and where its journal starts
+abbrev pub Opened : Type 0
+Opened = Option (Head × ℕ)
+
 abbrev pub opened_of : List ℕ → Opened
-opened_of file = cond (is_whole file) (Whole (head_of file) (journal_at file)) Broken
+opened_of file = cond (is_whole file) (Some (head_of file, journal_at file)) None
 
 -- a column with the base's numbers at its front where the file is a whole store, else as it was
 abbrev pub lent_after : List ℕ → List ℕ → List ℕ → List ℕ

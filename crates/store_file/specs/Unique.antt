@@ -1,9 +1,8 @@
 -- No second answer satisfies a contract: not of the check sum, of the test, or of `open` and the cells that it was lent. Assumes nothing.
 use Rattle.std.specs.Prelude.{◌≡◌, ℕ, Bool, List}
 use Rattle.std.proofs.Common.{sym, ◌∙◌}
-use Rattle.store_file.specs.declared.Opened.{Opened}
 use Rattle.store_file.specs.Layout.{sum_of, is_whole}
-use Rattle.store_file.specs.Opened.{OpenedBy}
+use Rattle.store_file.specs.Opened.{Opened, OpenedBy}
 
 pub sum_unique : (bytes : List ℕ) {r s : ℕ} → r ≡ sum_of bytes → s ≡ sum_of bytes → r ≡ s
 sum_unique bytes p q = p ∙ sym q

@@ -13,17 +13,8 @@ use record::Width;
 use rules::Record;
 use std::num::wrapping_add_u64;
 
-// What a file is: a whole store with its head, whose journal starts at a byte, or no whole store.
-#[derive(Clone, Copy)]
-pub enum Opened {
-    Whole(Head, usize),
-    Broken,
-}
-
-impl Opened {
-    // The most bytes of a file that recovery takes.
-    pub const BYTES: usize = HEAD_BYTES + Base::ROWS * ROW_BYTES + SUM_BYTES + JOURNAL_BYTES;
-}
+// The most bytes of a file that recovery takes.
+pub const BYTES: usize = HEAD_BYTES + Base::ROWS * ROW_BYTES + SUM_BYTES + JOURNAL_BYTES;
 
 // The letters r, e, g and the layout number 1, as the number that these four bytes spell.
 const SIGNATURE: u64 = 114 + 101 * 256 + 103 * 65536 + 16777216;
@@ -74,10 +65,8 @@ pub fn sum(bytes: &[u8]) -> u64
     ensures { result ≡ sum_of bytes.now }
 {
     let mut s = SUM_START;
-    let mut i = 0;
-    while i < bytes.len() {
-        s = more(s, bytes[i]);
-        i += 1;
+    for byte in bytes {
+        s = more(s, *byte);
     }
     s
 }
@@ -97,10 +86,7 @@ pub fn is_whole(file: &[u8]) -> bool
         return false;
     }
     let end = HEAD_BYTES + rows * ROW_BYTES;
-    if file.len() < end + SUM_BYTES {
-        return false;
-    }
-    sum(&file[..end]) == record::field(file, end, Width::Eight)
+    file.len() >= end + SUM_BYTES && sum(&file[..end]) == record::field(file, end, Width::Eight)
 }
 
 // The head, whose used count recovery works out.
@@ -123,24 +109,23 @@ fn column(file: &[u8], at: usize, rows: usize, to: &mut [u32])
     requires { (at + rows * base_row_bytes ≤ length file.now) × (rows ≤ length to.old) }
     ensures { to.new ≡ column_of file.now at rows ++ drop rows to.old }
 {
-    let mut i = 0;
-    while i < rows {
+    for i in 0..rows {
         to[i] = record::field(file, at + i * ROW_BYTES, Width::Four) as u32;
-        i += 1;
     }
 }
 
-// Reads a whole store: its base rows go to the front of two lent columns. A file that is none leaves them as they were.
-pub fn open(file: &[u8], keys: &mut [u32], values: &mut [u32]) -> Opened
+// Reads a whole store: its head, and at which byte its journal starts; its base rows go to the front of two lent columns. A file that is no whole
+// store leaves them as they were.
+pub fn open(file: &[u8], keys: &mut [u32], values: &mut [u32]) -> Option<(Head, usize)>
     requires { (most_rows ≤ length keys.old) × (most_rows ≤ length values.old) }
     ensures { OpenedBy file.now keys.old values.old result keys.new values.new }
 {
     if !is_whole(file) {
-        return Opened::Broken;
+        return None;
     }
-    let h = head(file);
-    let rows = h.base.rows;
+    let head = head(file);
+    let rows = head.base.rows;
     column(file, HEAD_BYTES, rows, keys);
     column(file, HEAD_BYTES + VALUE_IN_ROW, rows, values);
-    Opened::Whole(h, HEAD_BYTES + rows * ROW_BYTES + SUM_BYTES)
+    Some((head, HEAD_BYTES + rows * ROW_BYTES + SUM_BYTES))
 }

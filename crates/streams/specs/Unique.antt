@@ -1,9 +1,7 @@
 -- No second answer satisfies a contract that does not hang on what the system hands over. Assumes nothing.
 use Rattle.std.specs.Prelude.{◌≡◌, ℕ, ℤ}
 use Rattle.std.proofs.Common.{sym, ◌∙◌}
-use Rattle.streams.specs.declared.moves.Moved.{Moved}
-use Rattle.streams.specs.declared.moves.Step.{Step}
-use Rattle.streams.specs.Moves.{moved_by, step_of}
+use Rattle.streams.specs.Moves.{Moved, Step, moved_by, step_of}
 
 pub moved_by_unique : (answer error : ℤ) {r s : Moved} → r ≡ moved_by answer error → s ≡ moved_by answer error → r ≡ s
 moved_by_unique answer error p q = p ∙ sym q

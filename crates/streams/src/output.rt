@@ -3,11 +3,12 @@ ghost use Rattle.std.specs.Prelude.{◌≤◌, length, take};
 ghost use Rattle.std.specs.Io.KnownBytes.{Appends};
 ghost use Rattle.streams.specs.Moves.{Within, count_of};
 
-use crate::moves::{Moved, Step, moved_of, next_step};
+use crate::moves::{Fault, moved_of, next_step};
 use std::io::Write;
+use std::ops::ControlFlow;
 
 // One write of what is left.
-fn write_on<W: Write>(writer: &mut W, rest: &[u8]) -> Moved
+fn write_on<W: Write>(writer: &mut W, rest: &[u8]) -> Result<usize, Fault>
     ensures within { Within result (length rest.now) }
     ensures bytes { Appends (W.contents writer.old) (W.contents writer.new) (take (count_of result) rest.now) }
 {
@@ -21,17 +22,14 @@ pub fn write_all<W: Write>(writer: &mut W, text: &[u8]) -> usize
     ensures bytes { Appends (W.contents writer.old) (W.contents writer.new) (take result text.now) }
 {
     let mut done = 0;
-    let mut left = Moved::INTERRUPTIONS;
+    let mut left = Fault::INTERRUPTIONS;
     while done < text.len() {
         let moved = write_on(writer, &text[done..]);
-        let step = next_step(moved, done, left);
-        match step {
-            Step::On(bytes, interruptions) => {
-                done = bytes;
-                left = interruptions;
-            }
-            Step::Stop(_) => return done,
-        }
+        let ControlFlow::Continue((bytes, interruptions)) = next_step(moved, done, left) else {
+            return done;
+        };
+        done = bytes;
+        left = interruptions;
     }
     done
 }

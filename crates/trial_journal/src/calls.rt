@@ -9,12 +9,56 @@ use registers::journal_calls::{
     registers_journal_list, registers_journal_lookup, registers_journal_read,
     registers_journal_recover,
 };
-use script::line::Call;
+use script::line::{Call, Word};
 use script::rows;
+use script::run::Store;
 
-// The head as it was.
-fn unchanged(head: Head, answer: Answer) -> JournalResult {
-    JournalResult { head, answer }
+// A journal store and what it is lent: so many rows of the base, and so many bytes.
+#[derive(Drop)]
+pub(crate) struct Lent<const ROWS: usize, const BYTES: usize> {
+    head: Head,
+    keys: [u32; ROWS],
+    values: [u32; ROWS],
+    bytes: [u8; BYTES],
+}
+
+impl<const ROWS: usize, const BYTES: usize> Lent<ROWS, BYTES> {
+    pub(crate) fn empty() -> Self {
+        Lent {
+            head: Head::empty(),
+            keys: [0; ROWS],
+            values: [0; ROWS],
+            bytes: [0; BYTES],
+        }
+    }
+}
+
+impl<const ROWS: usize, const BYTES: usize> Store for Lent<ROWS, BYTES> {
+    fn turn(&mut self, call: Call) -> Answer {
+        let JournalResult { head, answer } = turn(
+            self.head,
+            &mut self.keys,
+            &mut self.values,
+            &mut self.bytes,
+            call,
+        );
+        self.head = head;
+        answer
+    }
+
+    fn sum(&self) -> u64 {
+        let h = self.head;
+        let head = sums::three(
+            h.low,
+            h.floor as u64,
+            h.base.rows as u64,
+            h.journal.used as u64,
+        );
+        sums::of(
+            sums::of(sums::of(head, &self.keys), &self.values),
+            &self.bytes,
+        )
+    }
 }
 
 // An empty store whose next number is given.
@@ -25,7 +69,10 @@ fn numbered(floor: u32) -> JournalResult {
         base: Base::empty(),
         journal: Journal::empty(),
     };
-    unchanged(head, Answer::alone(0))
+    JournalResult {
+        head,
+        answer: Answer::alone(0),
+    }
 }
 
 // The list at t into so many rows, or one of the rows after it.
@@ -47,78 +94,43 @@ fn listed(h: Head, keys: &[u32], values: &[u32], bytes: &[u8], call: Call) -> An
 
 // The calls that change nothing.
 fn asked(h: Head, keys: &[u32], values: &[u32], bytes: &[u8], call: Call) -> Answer {
-    let word = call.word;
-    if word == Call::READ {
-        return registers_journal_read(h, keys, values, bytes, call.n, call.k);
+    let Call { b, n, k, .. } = call;
+    match call.word {
+        Word::Read => registers_journal_read(h, keys, values, bytes, n, k),
+        Word::Lookup => registers_journal_lookup(h, keys, values, bytes, n, b),
+        Word::List => listed(h, keys, values, bytes, call),
+        _ => Answer::alone(Call::NO_CALL),
     }
-    if word == Call::LOOKUP {
-        return registers_journal_lookup(h, keys, values, bytes, call.n, call.b);
-    }
-    if word == Call::LIST {
-        return listed(h, keys, values, bytes, call);
-    }
-    Answer::alone(Call::NO_CALL)
-}
-
-// A recovery, what else is done to a store, and the calls that change nothing.
-fn made(h: Head, keys: &[u32], values: &[u32], bytes: &mut [u8], call: Call) -> JournalResult {
-    let word = call.word;
-    if word == Call::RECOVER {
-        return registers_journal_recover(h, keys, values, bytes, call.a as usize);
-    }
-    if word == Call::FILL {
-        let value = (call.v % 256) as u8;
-        sums::fill(bytes, call.a as usize, call.b as usize, value);
-        return unchanged(h, Answer::alone(0));
-    }
-    if word == Call::STORE {
-        return numbered(call.n);
-    }
-    unchanged(h, asked(h, keys, values, bytes, call))
-}
-
-// The calls that write a record, and what else leaves the base as it is.
-fn recorded(h: Head, keys: &[u32], values: &[u32], bytes: &mut [u8], call: Call) -> JournalResult {
-    let word = call.word;
-    if word == Call::BEGIN {
-        return registers_journal_begin(h, keys, values, bytes, call.a);
-    }
-    if word == Call::ASSIGN {
-        return registers_journal_assign(h, keys, values, bytes, call.n, call.k, call.v);
-    }
-    if word == Call::ADD {
-        return registers_journal_add(h, keys, values, bytes, call.n, call.k, call.v);
-    }
-    if word == Call::ABORT {
-        return registers_journal_abort(h, keys, values, bytes, call.n);
-    }
-    if word == Call::COMMIT {
-        return registers_journal_commit(h, keys, values, bytes, call.n, call.b);
-    }
-    made(h, keys, values, bytes, call)
 }
 
 // What a line asks.
-pub(crate) fn turn(
+fn turn(
     h: Head,
     keys: &mut [u32],
     values: &mut [u32],
     bytes: &mut [u8],
     call: Call,
 ) -> JournalResult {
-    if call.word == Call::CHECKPOINT {
-        return registers_journal_checkpoint(h, keys, values, bytes, call.a);
+    let Call { a, b, n, k, v, .. } = call;
+    match call.word {
+        Word::Begin => registers_journal_begin(h, keys, values, bytes, a),
+        Word::Assign => registers_journal_assign(h, keys, values, bytes, n, k, v),
+        Word::Add => registers_journal_add(h, keys, values, bytes, n, k, v),
+        Word::Abort => registers_journal_abort(h, keys, values, bytes, n),
+        Word::Commit => registers_journal_commit(h, keys, values, bytes, n, b),
+        Word::Checkpoint => registers_journal_checkpoint(h, keys, values, bytes, a),
+        Word::Recover => registers_journal_recover(h, keys, values, bytes, a as usize),
+        Word::Store => numbered(n),
+        Word::Fill => {
+            sums::fill(bytes, a as usize, b as usize, (v % 256) as u8);
+            JournalResult {
+                head: h,
+                answer: Answer::alone(0),
+            }
+        }
+        _ => JournalResult {
+            head: h,
+            answer: asked(h, keys, values, bytes, call),
+        },
     }
-    recorded(h, keys, values, bytes, call)
-}
-
-// A sum of the head and all cells.
-pub(crate) fn sum(h: Head, keys: &[u32], values: &[u32], bytes: &[u8]) -> u64 {
-    let head = sums::three(
-        h.low,
-        h.floor as u64,
-        h.base.rows as u64,
-        h.journal.used as u64,
-    );
-    sums::of(sums::of(sums::of(head, keys), values), bytes)
 }

@@ -7,13 +7,58 @@ use registers::map_calls::{
     registers_map_checkpoint, registers_map_commit, registers_map_list, registers_map_lookup,
     registers_map_read,
 };
-use script::line::Call;
+use script::line::{Call, Word};
 use script::rows;
+use script::run::Store;
 use slot::{Slot, Slots};
 
-// The head as it was.
-fn unchanged(head: MapHead, answer: Answer) -> MapResult {
-    MapResult { head, answer }
+// A map store and the rows that it is lent.
+#[derive(Drop)]
+pub(crate) struct Lent {
+    head: MapHead,
+    keys: [u32; rows::ROWS],
+    times: [u64; rows::ROWS],
+    values: [u32; rows::ROWS],
+    marks: [u8; rows::ROWS],
+}
+
+impl Lent {
+    pub(crate) fn empty() -> Self {
+        Lent {
+            head: MapHead::empty(),
+            keys: [0; rows::ROWS],
+            times: [0; rows::ROWS],
+            values: [0; rows::ROWS],
+            marks: [0; rows::ROWS],
+        }
+    }
+}
+
+impl Store for Lent {
+    fn turn(&mut self, call: Call) -> Answer {
+        let MapResult { head, answer } = turn(
+            self.head,
+            &mut self.keys,
+            &mut self.times,
+            &mut self.values,
+            &mut self.marks,
+            call,
+        );
+        self.head = head;
+        answer
+    }
+
+    fn sum(&self) -> u64 {
+        let h = self.head;
+        let head = sums::three(h.low, h.last, h.next as u64, h.used as u64);
+        let versions = sums::of(
+            sums::of(sums::of(head, &self.keys), &self.times),
+            &self.values,
+        );
+        let columns = sums::of(versions, &self.marks);
+        let occupied = h.slots.occupied as u64;
+        slots_sum(sums::three(columns, occupied, 0, 0), h.slots)
+    }
 }
 
 // An empty store whose next number is given.
@@ -25,7 +70,10 @@ fn numbered(next: u32) -> MapResult {
         used: 0,
         slots: Slots::empty(),
     };
-    unchanged(head, Answer::alone(0))
+    MapResult {
+        head,
+        answer: Answer::alone(0),
+    }
 }
 
 // The list at t into so many rows, or one of the rows after it.
@@ -62,64 +110,38 @@ fn asked(
     marks: &[u8],
     call: Call,
 ) -> Answer {
-    let word = call.word;
-    if word == Call::READ {
-        return registers_map_read(h, keys, times, values, marks, call.n, call.k);
+    let Call { b, n, k, .. } = call;
+    match call.word {
+        Word::Read => registers_map_read(h, keys, times, values, marks, n, k),
+        Word::Lookup => registers_map_lookup(h, keys, times, values, marks, n, b),
+        Word::List => listed(h, keys, times, values, marks, call),
+        _ => Answer::alone(Call::NO_CALL),
     }
-    if word == Call::LOOKUP {
-        return registers_map_lookup(h, keys, times, values, marks, call.n, call.b);
-    }
-    if word == Call::LIST {
-        return listed(h, keys, times, values, marks, call);
-    }
-    Answer::alone(Call::NO_CALL)
-}
-
-// The calls that change no version, and an empty store.
-fn noted(
-    h: MapHead,
-    keys: &[u32],
-    times: &[u64],
-    values: &[u32],
-    marks: &[u8],
-    call: Call,
-) -> MapResult {
-    let word = call.word;
-    if word == Call::BEGIN {
-        return registers_map_begin(h, keys, times, values, marks, call.a);
-    }
-    if word == Call::ASSIGN {
-        return registers_map_assign(h, keys, times, values, marks, call.n, call.k, call.v);
-    }
-    if word == Call::ADD {
-        return registers_map_add(h, keys, times, values, marks, call.n, call.k, call.v);
-    }
-    if word == Call::ABORT {
-        return registers_map_abort(h, keys, times, values, marks, call.n);
-    }
-    if word == Call::STORE {
-        return numbered(call.n);
-    }
-    unchanged(h, asked(h, keys, times, values, marks, call))
 }
 
 // What a line asks.
-pub(crate) fn turn(
+fn turn(
     h: MapHead,
-    keys: &mut [u32; rows::ROWS],
-    times: &mut [u64; rows::ROWS],
-    values: &mut [u32; rows::ROWS],
-    marks: &mut [u8; rows::ROWS],
+    keys: &mut [u32],
+    times: &mut [u64],
+    values: &mut [u32],
+    marks: &mut [u8],
     call: Call,
 ) -> MapResult {
-    let word = call.word;
-    if word == Call::COMMIT {
-        return registers_map_commit(h, keys, times, values, marks, call.n, call.b);
+    let Call { a, b, n, k, v, .. } = call;
+    match call.word {
+        Word::Begin => registers_map_begin(h, keys, times, values, marks, a),
+        Word::Assign => registers_map_assign(h, keys, times, values, marks, n, k, v),
+        Word::Add => registers_map_add(h, keys, times, values, marks, n, k, v),
+        Word::Abort => registers_map_abort(h, keys, times, values, marks, n),
+        Word::Commit => registers_map_commit(h, keys, times, values, marks, n, b),
+        Word::Checkpoint => registers_map_checkpoint(h, keys, times, values, marks, a),
+        Word::Store => numbered(n),
+        _ => MapResult {
+            head: h,
+            answer: asked(h, keys, times, values, marks, call),
+        },
     }
-    if word == Call::CHECKPOINT {
-        return registers_map_checkpoint(h, keys, times, values, marks, call.a);
-    }
-    noted(h, keys, times, values, marks, call)
 }
 
 // A slot added to a sum.
@@ -139,19 +161,4 @@ fn slots_sum(sum: u64, slots: Slots) -> u64 {
         s = slot_sum(s, slots.at(i));
     }
     s
-}
-
-// A sum of the head and all cells.
-pub(crate) fn sum(
-    h: MapHead,
-    keys: &[u32; rows::ROWS],
-    times: &[u64; rows::ROWS],
-    values: &[u32; rows::ROWS],
-    marks: &[u8; rows::ROWS],
-) -> u64 {
-    let slots = h.slots;
-    let head = sums::three(h.low, h.last, h.next as u64, h.used as u64);
-    let versions = sums::of(sums::of(sums::of(head, keys), times), values);
-    let columns = sums::of(versions, marks);
-    slots_sum(sums::three(columns, slots.occupied as u64, 0, 0), slots)
 }

@@ -23,8 +23,4 @@ module _ (file : List ℕ) (at rows : ℕ) where
       rw (w, e, take-append-drop)
 
 abbrev pub invariant-loop-i : goal.invariant-loop-i
-invariant-loop-i l =
-    (l.i ≤ l.rows) × (length l.to ≡ length l.initial.to) × (whole l.file l.at l.rows l.to l.i ≡ column_of l.file l.at l.rows ++ drop l.rows l.initial.to)
-
-abbrev pub decreases-loop-i : goal.decreases-loop-i
-decreases-loop-i l = l.rows - l.i
+invariant-loop-i l = whole l.file l.at l.rows l.to l.i ≡ column_of l.file l.at l.rows ++ drop l.rows l.initial.to

@@ -22,7 +22,7 @@ pub loop-done-preserved : goal.loop-done-preserved
 loop-done-preserved g c =
     let m = c.read_on-moved.result in
     let done = c.loop-done.done in
-    let went = goes_on_by m done c.loop-done.left c.next_step-step.ensures c.in-On.is in
+    let went = goes_on_by m done c.loop-done.left c.next_step.ensures c.in-Continue.is in
     let fits : count_of m ≤ length c.read_on-moved.new.room = omega (arith, count_within m c.read_on-moved.ensures.within) in
     let read = Consumes-trans _ _ _ _ _ c.loop-done.invariant.2 c.read_on-moved.ensures.bytes in
     (search rules, search rules, subst (Consumes _ _) (more done _ (count_of m) c.loop-done.buffer c.read_on-moved.new.room c.loop-done.invariant.0 fits went) read)

@@ -15,6 +15,6 @@ pub loop-done-preserved : goal.loop-done-preserved
 loop-done-preserved g c =
     let m = c.write_on-moved.result in
     let done = c.loop-done.done in
-    let went = goes_on_by m done c.loop-done.left c.next_step-step.ensures c.in-On.is in
+    let went = goes_on_by m done c.loop-done.left c.next_step.ensures c.in-Continue.is in
     let written = Appends-trans _ _ _ _ _ c.loop-done.invariant.1 c.write_on-moved.ensures.bytes in
     (search rules, subst (Appends _ _) (more done (count_of m) c.args.text.now went) written)

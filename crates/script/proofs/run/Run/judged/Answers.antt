@@ -4,4 +4,4 @@ use Rattle.script.proofs.run.Run.judged.Goals as goal
 
 pub returns : goal.returns
 unfolding judged_by
-returns g c = rw c.judged.ensures
+returns g c = rw c.judged-tally.ensures
