@@ -1,10 +1,11 @@
 -- Laws of ends: from a place on, or before it; a number from the top on has no record among some. Assumes nothing.
-use Rattle.std.specs.Prelude.{◌≡◌, refl, Bool, true, false, ◌||◌, List, [], ◌∷◌, ℕ, zero, suc, ◌+◌, ◌-◌, ◌*◌, ◌≤◌, eqb}
-use Rattle.std.proofs.Common.{sym, ap, ◌∙◌, add-one, arith, ne_eqb}
+use Rattle.std.specs.Prelude.{◌≡◌, refl, Bool, true, false, ◌||◌, not, ◌&&◌, List, [], ◌∷◌, ℕ, zero, suc, ◌+◌, ◌-◌, ◌*◌, ◌≤◌, eqb, ltb}
+use Rattle.std.proofs.Common.{sym, ap, ◌∙◌, add-one, arith, ne_eqb, true≢false}
 use Rattle.rules.specs.declared.Record.{Record}
-use Rattle.rules.specs.Bools.{split, or_left}
-use Rattle.rules.specs.Kinds.{record_size, is_end}
-use Rattle.rules.specs.Transactions.{any, of}
+use Rattle.rules.specs.Bools.{split, or_left, and_false}
+use Rattle.rules.specs.Kinds.{record_size, is_begin, is_end}
+use Rattle.rules.specs.Transactions.{any, of, opens, snapshot}
+use Rattle.rules.specs.Checkpoints.{held_by}
 use Rattle.record.specs.Bytes.{record_at, records_in}
 use Rattle.journal.specs.Ends.{ended_from, ends, top}
 
@@ -40,3 +41,31 @@ module _ (n : ℕ) (b : List ℕ) where
     pub ended_before : behind ≡ false → any is_end (of n (records_in used b)) ≡ any is_end (of n (records_in i b))
     ended_before e =
         ended_all (used - i) i used (omega arith) ∙ ap (λ (x : Bool). x || any is_end (of n (records_in i b))) (sym d ∙ e)
+
+apart : (begin behind begun ended : Bool) → ((begin && not behind) && (not begun && not ended)) ≡ (begin && (not begun && not (behind || ended)))
+apart true true begun ended = sym (and_false (not begun))
+apart true false begun ended = refl
+apart false behind begun ended = refl
+
+gone : (begin behind begun ended below : Bool) → (begin && not behind) ≡ false → false ≡ (begin && ((begun && not (behind || ended)) && below))
+gone true true begun ended below e = rw (and_false begun)
+gone true false begun ended below e = absurd (true≢false e)
+gone false behind begun ended below e = refl
+
+-- a record that stands at a place, with what is asked of the records behind it and before it
+module _ (b : List ℕ) (i used : ℕ) (l : i ≤ used) (r : Record) (unended : Bool)
+    (d : unended ≡ (is_begin r && not (ended_from r.transaction b i (used - i)))) where
+  -- it opens a transaction where it is a begin with no end behind it, and no begin or end stands before it
+  pub opens_apart : (unknown : Bool)
+      → unknown ≡ (not (any is_begin (of r.transaction (records_in i b))) && not (any is_end (of r.transaction (records_in i b))))
+      → (unended && unknown) ≡ opens (records_in used b) r (records_in i b)
+  opens_apart unknown e =
+      rw (d, e, ended_all r.transaction b (used - i) i used (omega arith))
+      (apart (is_begin r) (ended_from r.transaction b i (used - i)) (any is_begin (of r.transaction (records_in i b))) (any is_end (of r.transaction (records_in i b))))
+
+  -- and it holds no time where it is no such begin
+  pub held_none : (t : ℕ) → unended ≡ false → false ≡ held_by t (records_in used b) r
+  held_none t e =
+      rw (ended_all r.transaction b (used - i) i used (omega arith))
+      (gone (is_begin r) (ended_from r.transaction b i (used - i)) (any is_begin (of r.transaction (records_in used b)))
+      (any is_end (of r.transaction (records_in i b))) (ltb (snapshot r.transaction (records_in used b)) t) (sym d ∙ e))

@@ -1,5 +1,5 @@
 -- Sums of cells, and cells that are filled. Assumes nothing.
-use Rattle.std.specs.Prelude.{ℕ, zero, suc, ◌+◌, ◌-◌, ◌*◌, ◌/◌, ◌%◌, ◌^◌, min, List, [], ◌∷◌, length, bit_or, slice_set}
+use Rattle.std.specs.Prelude.{◌≡◌, ℕ, zero, suc, ◌+◌, ◌-◌, ◌*◌, ◌/◌, ◌%◌, ◌^◌, min, List, [], ◌∷◌, length, bit_or, slice_set}
 
 -- a sum with one number more: its 64 bits turn round by seven, and none is lost
 abbrev pub more : ℕ → ℕ → ℕ
@@ -13,6 +13,11 @@ three sum x y z = more (more (more sum x) y) z
 abbrev pub total : ℕ → List ℕ → ℕ
 total sum [] = sum
 total sum (x ∷ column) = total (more sum x) column
+
+-- r is the sum with every cell of a column more, where a test says which number a cell is
+abbrev pub Totals : {T : Type 0} → (T → ℕ → Type 0) → ℕ → List T → ℕ → Type 0
+Totals is sum [] r = r ≡ sum
+Totals is sum (x ∷ column) r = (n : ℕ) × is x n × Totals is (more sum n) column r
 
 -- so many bytes from a place on get a value
 abbrev pub fill_on : ℕ → List ℕ → ℕ → ℕ → List ℕ

@@ -1,16 +1,14 @@
 // A sum of cells, by which a change is seen.
 #![tactic(auto)]
 
-ghost use Rattle.std.specs.Prelude.{◌≡◌, min};
-ghost use Rattle.sums.specs.Sums.{more, three as three_more, total, filled};
-
-use std::num::wrapping_add_u64;
+ghost use Rattle.std.specs.Prelude.{◌≡◌};
+ghost use Rattle.sums.specs.Sums.{more, three as three_more, Totals, filled};
 
 // A sum with one number more. Its bits turn round and none is lost, so that sums which differ in one number differ.
 fn more(sum: u64, x: u64) -> u64
     ensures { result ≡ more sum x }
 {
-    wrapping_add_u64(sum << 7 | sum >> 57, x)
+    (sum << 7 | sum >> 57).wrapping_add(x)
 }
 
 // A sum with three numbers more.
@@ -20,73 +18,22 @@ pub fn three(sum: u64, x: u64, y: u64, z: u64) -> u64
     more(more(more(sum, x), y), z)
 }
 
-// The lesser of two.
-fn least(a: usize, b: usize) -> usize
-    ensures { result ≡ min a b }
-{
-    if a <= b {
-        return a;
-    }
-    b
-}
-
-// Every byte from one place up to another gets a value.
+// Every byte from one place up to another gets a value. The second may lie below the first, or behind the bytes, where no part of them could be taken.
 pub fn fill(bytes: &mut [u8], from: usize, to: usize, value: u8)
     ensures { bytes.new ≡ filled bytes.old from to value }
 {
-    let end = least(to, bytes.len());
-    let mut i = from;
-    while i < end {
+    for i in from..to.min(bytes.len()) {
         bytes[i] = value;
-        i += 1;
     }
 }
 
-// A sum with every byte of a column more; the others likewise with wider cells.
-pub fn of_bytes(sum: u64, column: &[u8]) -> u64
-    ensures { result ≡ total sum column.now }
+// A sum with every cell of a column more, of whatever width.
+pub fn of<T: Copy + Into<u64>>(sum: u64, column: &[T]) -> u64
+    ensures { Totals T.converts sum column.now result }
 {
     let mut s = sum;
-    let mut i = 0;
-    while i < column.len() {
-        s = more(s, wide8(column[i]));
-        i += 1;
+    for x in column {
+        s = more(s, (*x).into());
     }
     s
-}
-
-pub fn of_column(sum: u64, column: &[u32]) -> u64
-    ensures { result ≡ total sum column.now }
-{
-    let mut s = sum;
-    let mut i = 0;
-    while i < column.len() {
-        s = more(s, wide(column[i]));
-        i += 1;
-    }
-    s
-}
-
-pub fn of_times(sum: u64, column: &[u64]) -> u64
-    ensures { result ≡ total sum column.now }
-{
-    let mut s = sum;
-    let mut i = 0;
-    while i < column.len() {
-        s = more(s, column[i]);
-        i += 1;
-    }
-    s
-}
-
-fn wide8(x: u8) -> u64
-    ensures { result ≡ x }
-{
-    x as u64
-}
-
-fn wide(x: u32) -> u64
-    ensures { result ≡ x }
-{
-    x as u64
 }

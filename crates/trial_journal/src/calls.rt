@@ -120,5 +120,5 @@ pub(crate) fn sum(h: Head, keys: &[u32], values: &[u32], bytes: &[u8]) -> u64 {
         h.base.rows as u64,
         h.journal.used as u64,
     );
-    sums::of_bytes(sums::of_column(sums::of_column(head, keys), values), bytes)
+    sums::of(sums::of(sums::of(head, keys), values), bytes)
 }

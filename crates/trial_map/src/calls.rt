@@ -128,8 +128,8 @@ fn slot_sum(sum: u64, s: Slot) -> u64 {
     let values = s.values;
     let marks = s.marks;
     let head = sums::three(sum, s.number as u64, s.snapshot, s.count as u64);
-    let rows = sums::of_column(sums::of_column(head, &keys), &values);
-    sums::of_bytes(rows, &marks)
+    let rows = sums::of(sums::of(head, &keys), &values);
+    sums::of(rows, &marks)
 }
 
 // The eight slots added to a sum.
@@ -151,7 +151,7 @@ pub(crate) fn sum(
 ) -> u64 {
     let slots = h.slots;
     let head = sums::three(h.low, h.last, h.next as u64, h.used as u64);
-    let versions = sums::of_column(sums::of_times(sums::of_column(head, keys), times), values);
-    let columns = sums::of_bytes(versions, marks);
+    let versions = sums::of(sums::of(sums::of(head, keys), times), values);
+    let columns = sums::of(versions, marks);
     slots_sum(sums::three(columns, slots.occupied as u64, 0, 0), slots)
 }

@@ -44,17 +44,15 @@ pub returns-then-reaches : goal.returns-then-reaches
 returns-then-reaches c =
     let l = c.loop-i in
     let a = c.args in
-    let r = c.read in
+    let r = c.at in
     sym
-    (l.invariant.1 ∙ turned a.low a.t l.i a.journal.now r.result (omega arith) r.ensures
-    ∙ met a.t r.result (last a.low (records_in (l.i - 1) a.journal.now)) _ c.reaches.ensures c.if-reaches.true)
+    (l.invariant ∙ turned a.low a.t l.i a.records.bytes.now r.result (omega arith) r.ensures
+    ∙ met a.t r.result (last a.low (records_in (l.i - 1) a.records.bytes.now)) _ c.reaches.ensures c.if-reaches.true)
 
 pub loop-i-preserved : goal.loop-i-preserved
 loop-i-preserved c =
     let l = c.loop-i in
     let a = c.args in
-    let r = c.read in (
-      omega arith,
-      l.invariant.1 ∙ turned a.low a.t l.i a.journal.now r.result (omega arith) r.ensures
-          ∙ passed a.t r.result (last a.low (records_in (l.i - 1) a.journal.now)) _ c.reaches.ensures c.if-reaches.false,
-    )
+    let r = c.at in
+    l.invariant ∙ turned a.low a.t l.i a.records.bytes.now r.result (omega arith) r.ensures
+    ∙ passed a.t r.result (last a.low (records_in (l.i - 1) a.records.bytes.now)) _ c.reaches.ensures c.if-reaches.false

@@ -26,9 +26,9 @@ pub returns-then-r-eq-COMMIT : goal.returns-then-r-eq-COMMIT
 returns-then-r-eq-COMMIT c =
     let l = c.loop-i in
     let a = c.args in
-    found a.journal.now a.used a.low (l.i - 1) _ _ (omega arith) c.read-r.ensures c.if-r-eq-COMMIT.true c.last_step.ensures
+    found a.records.bytes.now a.records.used a.low (l.i - 1) _ _ (omega arith) c.at-r.ensures c.if-r-eq-COMMIT.true c.last_step.ensures
 
 pub returns : goal.returns
 returns c =
     let a = c.args in
-    (omega arith, low_last a.low (records_in a.used a.journal.now))
+    (omega arith, low_last a.low (records_in a.records.used a.records.bytes.now))

@@ -1,6 +1,6 @@
 -- `journal::transactions::is_ended` meets its contract. The loop's invariant: an end stands from the first place on exactly if one stands among the
 -- records that are left. Assumes nothing.
-use mathlib.Core.Path.{◌≡◌, sym, ap, ◌∙◌}
+use mathlib.Core.Path.{◌≡◌, refl, sym, ap, ◌∙◌}
 use mathlib.Core.Bool.{Bool, false, ◌||◌}
 use mathlib.Core.List.{List}
 use Prim.Native.Nat.{ℕ, suc, ◌+◌, ◌-◌, ◌*◌, ◌<◌}
@@ -23,7 +23,12 @@ pub loop-i-preserved : goal.loop-i-preserved
 loop-i-preserved c =
     let l = c.loop-i in
     let a = c.args in
-    let r = c.read in (
-      omega arith,
-      sym (passed a.n a.journal.now l.i a.to r.result _ r.ensures c.ends.ensures (omega arith) c.if-ends.false) ∙ l.invariant.1,
-    )
+    let r = c.at in
+    sym (passed a.n a.records.bytes.now l.i a.records.used r.result _ r.ensures c.ends.ensures (omega arith) c.if-ends.false) ∙ l.invariant
+
+pub returns-then-ends : goal.returns-then-ends
+returns-then-ends c =
+    let l = c.loop-i in
+    let a = c.args in
+    let r = c.at in
+    sym (split_off a.n a.records.bytes.now l.i a.records.used r.result _ r.ensures c.ends.ensures (omega arith) ∙ rw c.if-ends.true refl) ∙ l.invariant
