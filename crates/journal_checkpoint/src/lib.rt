@@ -23,10 +23,10 @@ fn decide(store: Store<'_>, t: u64) -> Result<(), Refusal>
     if t < store.low {
         return Err(Refusal::TooOld);
     }
-    if journal::times::is_future(store.records.bytes, store.records.used, store.low, t) {
+    if journal::times::is_future(store.records, store.low, t) {
         return Err(Refusal::Future);
     }
-    if journal::transactions::held(store.records.bytes, store.records.used, t) {
+    if journal::transactions::held(store.records, t) {
         return Err(Refusal::Held);
     }
     Ok(())
@@ -86,7 +86,7 @@ fn shorten(
 {
     let store = Store::new(h, keys, values, journal)?;
     decide(store, t)?;
-    let floor = journal::times::next(store.records.bytes, store.records.used, h.floor);
+    let floor = journal::times::next(store.records, h.floor);
     let rows = settle(h, keys, values, journal, t)?;
     let used = compact::keep_running(journal, h.journal.used, t);
     Ok(Head {

@@ -23,7 +23,7 @@ fn fill(
     if t < store.low {
         return Err(Refusal::TooOld);
     }
-    if journal::times::is_future(store.records.bytes, store.records.used, store.low, t) {
+    if journal::times::is_future(store.records, store.low, t) {
         return Err(Refusal::Future);
     }
     if store.base.count + store.records.used < listed.len() {

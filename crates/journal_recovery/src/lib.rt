@@ -55,10 +55,10 @@ fn restore(
     }
     let used = survived / Record::BYTES;
     let records = Records::new(journal, used);
-    if let Some(place) = walk::walk(records.bytes, records.used, h.low) {
+    if let Some(place) = walk::walk(records, h.low) {
         return Err(Refusal::BadRecord(place));
     }
-    let floor = journal::times::next(records.bytes, records.used, h.floor);
+    let floor = journal::times::next(records, h.floor);
     let kept = compact::keep_done(journal, used, h.low, survived);
     Ok(Head {
         floor,

@@ -13,7 +13,7 @@ use rules::Record;
 fn decide(store: Store<'_>, n: u32) -> Result<(), Refusal>
     ensures { Decided (Abort n) (room_in store.entry) (meant store.entry) (of_done result) }
 {
-    if !journal::transactions::runs(store.records.bytes, store.records.used, n) {
+    if !journal::transactions::runs(store.records, n) {
         return Err(Refusal::UnknownTransaction);
     }
     store.with_room(1)

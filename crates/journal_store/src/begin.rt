@@ -28,14 +28,14 @@ fn decide(store: Store<'_>, t: u64) -> Result<u32, Refusal>
     if t < store.low {
         return Err(Refusal::TooOld);
     }
-    if journal::times::is_future(store.records.bytes, store.records.used, store.low, t) {
+    if journal::times::is_future(store.records, store.low, t) {
         return Err(Refusal::Future);
     }
-    let running = journal::transactions::count_running(store.records.bytes, store.records.used);
+    let running = journal::transactions::count_running(store.records);
     if Journal::RUNNING <= running {
         return Err(Refusal::TooMany);
     }
-    let next = journal::times::next(store.records.bytes, store.records.used, store.floor);
+    let next = journal::times::next(store.records, store.floor);
     if Journal::NO_NUMBER <= next {
         return Err(Refusal::NoNumbers);
     }

@@ -24,21 +24,15 @@ fn committed(n: u32, t: u64) -> Record
 fn decide(store: Store<'_>, n: u32, t: u64) -> Result<(), Refusal>
     ensures { Decided (Commit n t) (room_in store.entry) (meant store.entry) (of_done result) }
 {
-    let trace = journal::transactions::follow(store.records.bytes, store.records.used, n);
+    let trace = journal::transactions::follow(store.records, n);
     if !trace.runs() {
         return Err(Refusal::UnknownTransaction);
     }
-    let last = journal::times::last(store.records.bytes, store.records.used, store.low);
+    let last = journal::times::last(store.records, store.low);
     if t <= last {
         return Err(Refusal::NotLater);
     }
-    if conflict::conflict(
-        store.records.bytes,
-        store.records.used,
-        n,
-        trace.snapshot,
-        last,
-    ) {
+    if conflict::conflict(store.records, n, trace.snapshot, last) {
         return Err(Refusal::Conflict);
     }
     store.with_room(1)

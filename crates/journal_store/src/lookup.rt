@@ -18,7 +18,7 @@ fn decide(store: Store<'_>, k: u32, t: u64) -> Result<Value, Refusal>
     if t < store.low {
         return Err(Refusal::TooOld);
     }
-    if journal::times::is_future(store.records.bytes, store.records.used, store.low, t) {
+    if journal::times::is_future(store.records, store.low, t) {
         return Err(Refusal::Future);
     }
     Ok(values::value::value_at(store.base, store.records, k, t))

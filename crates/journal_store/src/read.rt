@@ -12,7 +12,7 @@ use rules::Value;
 fn decide(store: Store<'_>, n: u32, k: u32) -> Result<Value, Refusal>
     ensures { of_got result ≡ read_decided n k (meant store.entry) }
 {
-    let trace = journal::transactions::follow(store.records.bytes, store.records.used, n);
+    let trace = journal::transactions::follow(store.records, n);
     if !trace.runs() {
         return Err(Refusal::UnknownTransaction);
     }

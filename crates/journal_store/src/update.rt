@@ -28,18 +28,16 @@ fn updated(n: u32, k: u32, e: Effect) -> Record
 fn decide(store: Store<'_>, n: u32, k: u32, e: Effect) -> Result<(), Refusal>
     ensures { Decided (Update n k e) (room_in store.entry) (meant store.entry) (of_done result) }
 {
-    if !journal::transactions::runs(store.records.bytes, store.records.used, n) {
+    if !journal::transactions::runs(store.records, n) {
         return Err(Refusal::UnknownTransaction);
     }
     if k == 0 {
         return Err(Refusal::BadKey);
     }
-    if !conflict::may_write(store.records.bytes, store.records.used, n, k) {
+    if !conflict::may_write(store.records, n, k) {
         return Err(Refusal::KeysFull);
     }
-    store.with_room(
-        1 + journal::transactions::count_running(store.records.bytes, store.records.used),
-    )
+    store.with_room(1 + journal::transactions::count_running(store.records))
 }
 
 // Notes an effect of a running transaction on a key.

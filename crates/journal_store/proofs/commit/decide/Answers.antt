@@ -8,7 +8,7 @@ use Rattle.journal_store.proofs.commit.decide.Goals as goal
 
 pub conflict-requires : goal.conflict-requires
 conflict-requires c =
-    let s = c.args.store in (s.few_records, s.records.there, rw c.last-last.ensures (past_last s.low (records_of s.records)))
+    let s = c.args.store in (s.few_records, rw c.last-last.ensures (past_last s.low (records_of s.records)))
 
 pub returns : goal.returns
 returns c =
