@@ -24,7 +24,8 @@ impl Ending {
     fn line(self) -> &'static [u8] {
         match self {
             Ending::Listed => b"listing: listed\n",
-            Ending::Empty => b"listing: this journal has no record; a store that has taken a checkpoint has its registers in its base\n",
+            Ending::Empty =>
+                b"listing: this journal has no record; a store that has taken a checkpoint has its registers in its base\n",
             Ending::Refused => b"listing: the store refuses this journal\n",
         }
     }

@@ -47,7 +47,7 @@ pub struct Call {
 }
 
 // A line: what it asks, the answer that it wants (a number of section 6, and 1 where a value stands beside it), whether it has a name, and where in
-// the script it stands.
+// the script it stands. Number, flag and value are three, since they are compared with those of `answer::shown::Answer`, the struct of the C interface.
 #[derive(Clone, Copy)]
 pub struct Line {
     pub call: Call,
@@ -205,25 +205,15 @@ impl Reading {
         if self.place >= Reading::NUMBERS {
             return self;
         }
-        if byte == b':' {
-            return Reading::new(true);
+        match byte {
+            b':' => Reading::new(true),
+            b'x' => self.noted(x),
+            b'=' => self.moved(Reading::WANT),
+            b'#' => self.moved(Reading::NOWHERE),
+            b'0'..=b'9' => self.counted(byte - b'0'),
+            _ if byte < b'0' => self.closed(),
+            _ => self.spelt(byte),
         }
-        if byte == b'x' {
-            return self.noted(x);
-        }
-        if byte == b'=' {
-            return self.moved(Reading::WANT);
-        }
-        if byte == b'#' {
-            return self.moved(Reading::NOWHERE);
-        }
-        if byte < b'0' {
-            return self.closed();
-        }
-        if byte <= b'9' {
-            return self.counted(byte - b'0');
-        }
-        self.spelt(byte)
     }
 
     // What the line asks.

@@ -14,10 +14,7 @@ pub const MARK: u32 = 7;
 pub fn lent(count: u64) -> usize
     ensures { (result ≡ min count most_lent) × (result ≤ most_lent) }
 {
-    if count as usize <= ROWS {
-        return count as usize;
-    }
-    ROWS
+    (count as usize).min(ROWS)
 }
 
 // The cell of a row, counted from 1.

@@ -45,6 +45,7 @@ pub fn read_all<R: Read>(reader: &mut R, buffer: &mut [u8]) -> Result<usize, Rea
     ensures bytes { (n : ℕ) → result ≡ Ok n → Consumes (R.remaining reader.old) (R.remaining reader.new) (take n buffer.new) }
     ensures end { (n : ℕ) → result ≡ Ok n → n < length buffer.new → IsAtEnd (R.remaining reader.new) }
 {
+    // Each call moves as many bytes as it will, so that no `for` counts them.
     let mut done = 0;
     let mut left = Fault::INTERRUPTIONS;
     while done < buffer.len() {

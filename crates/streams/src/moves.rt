@@ -26,7 +26,8 @@ pub const EINTR: i32 = 4;
 
 const EIO: i32 = 5;
 
-// What C's answer and errno say: how many bytes were moved, of which there are none at the end, or why not.
+// What C's answer and errno say: how many bytes were moved, none at the end, or why not. It takes C's numbers, since its promise is on them (`moved_by`,
+// docs/PROMISES.md).
 pub fn moved_by(answer: isize, error: i32) -> Result<usize, Fault>
     ensures { result ≡ moved_by answer error }
 {

@@ -21,6 +21,7 @@ pub fn write_all<W: Write>(writer: &mut W, text: &[u8]) -> usize
     ensures within { result ≤ length text.now }
     ensures bytes { Appends (W.contents writer.old) (W.contents writer.new) (take result text.now) }
 {
+    // Each call moves as many bytes as it will, so that no `for` counts them.
     let mut done = 0;
     let mut left = Fault::INTERRUPTIONS;
     while done < text.len() {

@@ -14,6 +14,11 @@ mod calls;
 fn main(rt: HostRuntime) -> io::Result<()> {
     let mut buffer = [0u8; run::SCRIPT];
     let count = input::read_all(&mut rt.stdin(), &mut buffer)?;
-    run::follow(&mut rt.stdout(), &buffer[..count], Word::Map, &mut Lent::empty());
+    run::follow(
+        &mut rt.stdout(),
+        &buffer[..count],
+        Word::Map,
+        &mut Lent::empty(),
+    );
     Ok(())
 }
