@@ -55,7 +55,8 @@ pub fn may_write(records: Records<'_>, n: u32, k: u32) -> bool
 {
     let mut keys = [0u32; Journal::RECORDS];
     let count = keys_written(records, n, true, &mut keys);
-    count < Journal::KEYS || column::is_in(&keys, count, k)
+    let few = count < Journal::KEYS;
+    few || column::is_in(&keys, count, k)
 }
 
 // Whether a record is an assign of a key that was written, or an add to one that was assigned: two adds alone do not meet.
