@@ -124,11 +124,9 @@ fn put(bytes: &mut [u8], at: usize, width: usize, v: u64)
     ensures { bytes.new ≡ written bytes.old at width v }
 {
     let mut rest = v;
-    let mut i = 0;
-    while i < width {
+    for i in 0..width {
         bytes[at + i] = (rest % BYTE) as u8;
         rest /= BYTE;
-        i += 1;
     }
 }
 

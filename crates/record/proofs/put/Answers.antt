@@ -1,10 +1,10 @@
 -- `record::put` meets its contract. The loop's invariant: what is written up to i, with what is left of the number still to write, is what
--- the contract says. The measure is what is left of the width. Assumes nothing.
+-- the contract says. Assumes nothing.
 use mathlib.Core.Path.{◌≡◌, ◌∙◌}
 use mathlib.Core.List.{List, append_assoc}
 use Prim.Native.Nat.{ℕ, suc, ◌≤◌, ◌<◌, ◌-◌, ◌+◌, ◌/◌, ◌%◌}
 use native.Mathlib.Omega.{arith}
-use lib.ListN.{length, set, length-set, take-append-drop}
+use lib.ListN.{length, set}
 use lib.Seq.{take-suc-set, drop-set-lt}
 use Rattle.record.proofs.put.Invariants.{whole}
 use Rattle.record.proofs.put.Goals as goal
@@ -18,17 +18,8 @@ turn b at width rest i l f =
     let k : at + i < at + width = omega arith in
     rw (w, s, take-suc-set b (at + i) (rest % 256) h, drop-set-lt (at + width) b (at + i) (rest % 256) k, append_assoc)
 
-finish : (b : List ℕ) (at width rest i : ℕ) → i ≡ width → whole b at width rest i ≡ b
-finish b at width rest i e =
-    let w : width - i ≡ 0 = omega arith in
-    let s : at + i ≡ at + width = omega arith in
-    rw (w, s, take-append-drop)
-
 pub loop-i-preserved : goal.loop-i-preserved
 loop-i-preserved c =
     let l = c.loop-i in
-    let a = c.args in (
-      omega arith,
-      simp length-set l.invariant.1,
-      turn l.bytes a.at a.width l.rest l.i (omega arith) (omega arith) ∙ l.invariant.2,
-    )
+    let a = c.args in
+    turn l.bytes a.at a.width l.rest l.i (omega arith) (omega arith) ∙ l.invariant

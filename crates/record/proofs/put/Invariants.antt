@@ -1,9 +1,9 @@
 -- `record::put` meets its contract. The loop's invariant: what is written up to i, with what is left of the number still to write, is what
--- the contract says. The measure is what is left of the width. Assumes nothing.
+-- the contract says. Assumes nothing.
 use mathlib.Core.Path.{◌≡◌}
 use mathlib.Core.List.{List, ◌++◌}
-use Prim.Native.Nat.{ℕ, ◌≤◌, ◌-◌, ◌+◌}
-use lib.ListN.{length, take, drop}
+use Prim.Native.Nat.{ℕ, ◌-◌, ◌+◌}
+use lib.ListN.{take, drop}
 use Rattle.record.specs.Bytes.{le_bytes, written}
 use Rattle.record.proofs.put.Given as goal
 
@@ -13,7 +13,4 @@ whole b at width rest i = take (at + i) b ++ (le_bytes (width - i) rest ++ drop 
 
 abbrev pub invariant-loop-i : goal.invariant-loop-i
 invariant-loop-i l =
-    (l.i ≤ l.width) × (length l.bytes ≡ length l.initial.bytes) × (whole l.bytes l.at l.width l.rest l.i ≡ written l.initial.bytes l.at l.width l.v)
-
-abbrev pub decreases-loop-i : goal.decreases-loop-i
-decreases-loop-i l = l.width - l.i
+    whole l.bytes l.at l.width l.rest l.i ≡ written l.initial.bytes l.at l.width l.v
