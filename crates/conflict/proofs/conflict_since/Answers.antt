@@ -3,7 +3,6 @@ use mathlib.Core.Path.{◌≡◌, refl, ◌∙◌}
 use mathlib.Core.Bool.{Bool}
 use mathlib.Core.List.{List, [], ◌∷◌}
 use Prim.Native.Nat.{ℕ}
-use native.Mathlib.Numerals.{unary_clauses}
 use lib.ListN.{take}
 use Rattle.rules.specs.declared.Record.{Record}
 use Rattle.rules.specs.Transactions.{any, of, keys_written}
@@ -40,5 +39,5 @@ module _ (n s used keys sets late : ℕ) (rs : List Record) (entry written entry
 pub returns : goal.returns
 returns c =
     let a = c.args in
-    told a.n a.s a.used _ _ _ (records_in a.used a.journal.now) _ _ _ _ _ _ c.keys_written-keys.ensures c.keys_written-sets.ensures
-    c.late_numbers-late.ensures _ (simp unary_clauses at c.any_met.ensures)
+    told a.n a.s a.records.used _ _ _ (records_in a.records.used a.records.bytes.now) _ _ _ _ _ _ c.keys_written-keys.ensures c.keys_written-sets.ensures
+    c.late_numbers-late.ensures _ c.any_met.ensures

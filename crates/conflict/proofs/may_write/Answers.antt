@@ -18,7 +18,7 @@ module _ (n k used count : ℕ) (rs : List Record) (entry keys : List ℕ) (h : 
   many : 32 ≤ count → (b : Bool) → b ≡ among k (take count keys) → b ≡ may_write n k rs
   many l b e = e ∙ keys_held (of n rs) used count entry keys h k ∙ sym (rw (← h.many, le-ltb count 32 l) (or_false (wrote k (of n rs))))
 
-pub returns : goal.returns
-returns c =
+pub returns-else-count-lt-KEYS : goal.returns-else-count-lt-KEYS
+returns-else-count-lt-KEYS c =
     let a = c.args in
-    many a.n a.k a.used _ (records_in a.used a.journal.now) _ _ c.keys_written-count.ensures c.if-count-lt-KEYS.false _ c.is_in.ensures
+    many a.n a.k a.records.used _ (records_in a.records.used a.records.bytes.now) _ _ c.keys_written-count.ensures c.if-count-lt-KEYS.false _ c.is_in.ensures
