@@ -2,7 +2,7 @@
 // Which ones stay is settled before the first byte moves.
 #![tactic(auto)]
 
-ghost use Rattle.std.specs.Prelude.{◌≡◌, true, ◌*◌, ◌%◌, ◌≤◌, length, take, replicate};
+ghost use Rattle.std.specs.Prelude.{◌≡◌, true, ◌*◌, ◌%◌, ◌≤◌, length, replicate};
 ghost use Rattle.rules.specs.Limits.{most_records};
 ghost use Rattle.rules.specs.Kinds.{record_size};
 ghost use Rattle.rules.specs.Lists.{among};
@@ -13,26 +13,17 @@ ghost use Rattle.compact.specs.Marks.{MarkSet, Marks};
 ghost use Rattle.compact.specs.Compact.{kept_in, sifted, zeroed, Moved, Compacted};
 
 use journal::{Journal, times, transactions};
+use record::Records;
 use rules::Record;
 
 // A begin with a snapshot below a time gets that time.
 fn raise(t: u64, r: Record) -> Record
     ensures { result ≡ raised t r }
 {
-    if r.kind != Record::BEGIN {
-        return r;
+    if r.kind == Record::BEGIN && r.time < t {
+        return Record { time: t, ..r };
     }
-    if t <= r.time {
-        return r;
-    }
-    Record {
-        kind: r.kind,
-        zeros: r.zeros,
-        transaction: r.transaction,
-        key: r.key,
-        value: r.value,
-        time: t,
-    }
+    r
 }
 
 // How many places there are for marks.
@@ -59,85 +50,60 @@ fn set_mark(marks: &mut [u32], n: u32) -> bool
     true
 }
 
-// The first numbers of a column marked: whether each has a place of its own. Numbers rise by one from begin to begin, so that those of a journal
-// mostly have.
-fn mark(numbers: &[u32], count: usize, marks: &mut [u32]) -> bool
-    requires { (count ≤ length numbers.now) × (marks.old ≡ replicate 1024 0) }
-    ensures { Marks (take count numbers.now) marks.new result }
+// Some numbers marked: whether each has a place of its own. Numbers rise by one from begin to begin, so that those of a journal mostly have.
+fn mark(numbers: &[u32], marks: &mut [u32]) -> bool
+    requires { marks.old ≡ replicate 1024 0 }
+    ensures { Marks numbers.now marks.new result }
 {
     let mut alone = true;
-    let mut i = 0;
-    while i < count {
-        if !set_mark(marks, numbers[i]) {
-            alone = false;
-        }
-        i += 1;
+    for n in numbers {
+        alone &= set_mark(marks, *n);
     }
     alone
 }
 
-// Whether a number stands in the first rows of a column, by its mark where that can tell.
-fn is_marked(numbers: &[u32], count: usize, marks: &[u32], alone: bool, n: u32) -> bool
-    requires { Marks (take count numbers.now) marks.now alone }
-    ensures { result ≡ among n (take count numbers.now) }
-{
-    if alone {
-        if n != 0 {
-            return marks[mark_place(n)] == n;
-        }
-    }
-    column::is_in(numbers, count, n)
+// Some numbers with their marks, and whether each has a place of its own.
+#[derive(Clone, Copy)]
+struct Marked<'a> {
+    numbers: &'a [u32],
+    marks: &'a [u32],
+    alone: bool,
+    ghost told: { Marks numbers.now marks.now alone },
 }
 
-// Whether a record stays: it is of a known kind, and its transaction stands in one of two columns.
-fn is_kept(
-    r: Record,
-    running: &[u32],
-    opened: usize,
-    lates: &[u32],
-    late: usize,
-    marks: &[u32],
-    alone: bool,
-) -> bool
-    requires { Marks (take late lates.now) marks.now alone }
-    ensures { result ≡ kept_in (take opened running.now) (take late lates.now) r }
+impl Marked<'_> {
+    // Whether a number is one of them, by its mark where that can tell.
+    fn has(self, n: u32) -> bool
+        ensures { result ≡ among n self.entry.numbers.now }
+    {
+        if self.alone && n != 0 {
+            return self.marks[mark_place(n)] == n;
+        }
+        column::is_in(self.numbers, self.numbers.len(), n)
+    }
+}
+
+// Whether a record stays: it is of a known kind, and of a transaction that runs or committed late.
+fn is_kept(r: Record, running: &[u32], lates: Marked<'_>) -> bool
+    ensures { result ≡ kept_in running.now lates.entry.numbers.now r }
 {
-    if r.kind < Record::BEGIN {
-        return false;
-    }
-    if column::is_in(running, opened, r.transaction) {
-        return r.kind <= Record::ABORT;
-    }
-    if r.kind > Record::ABORT {
-        return false;
-    }
-    is_marked(lates, late, marks, alone, r.transaction)
+    Record::BEGIN <= r.kind
+        && r.kind <= Record::ABORT
+        && (column::is_in(running, running.len(), r.transaction) || lates.has(r.transaction))
 }
 
 // The records that stay move up, their begins raised; how many they are.
-fn keep(
-    journal: &mut [u8],
-    used: usize,
-    t: u64,
-    running: &[u32],
-    opened: usize,
-    lates: &[u32],
-    late: usize,
-    marks: &[u32],
-    alone: bool,
-) -> usize
-    requires { (used * record_size ≤ length journal.old) × Marks (take late lates.now) marks.now alone }
-    ensures { Moved (sifted (kept_in (take opened running.now) (take late lates.now)) t (records_in used journal.old)) journal.old used result journal.new }
+fn keep(journal: &mut [u8], used: usize, t: u64, running: &[u32], lates: Marked<'_>) -> usize
+    requires { used * record_size ≤ length journal.old }
+    ensures { Moved (sifted (kept_in running.now lates.entry.numbers.now) t (records_in used journal.old)) journal.old used result journal.new }
 {
     let mut count = 0;
-    let mut i = 0;
-    while i < used {
+    for i in 0..used {
         let r = record::read(journal, i);
-        if is_kept(r, running, opened, lates, late, marks, alone) {
+        if is_kept(r, running, lates) {
             record::append(journal, count, raise(t, r));
             count += 1;
         }
-        i += 1;
     }
     count
 }
@@ -147,11 +113,7 @@ fn zero(bytes: &mut [u8], from: usize, to: usize)
     requires { (from ≤ to) × (to ≤ length bytes.old) }
     ensures { bytes.new ≡ zeroed bytes.old from to }
 {
-    let mut i = from;
-    while i < to {
-        bytes[i] = 0;
-        i += 1;
-    }
+    bytes[from..to].fill(0);
 }
 
 // Rule 3.9: the records of the transactions that run or committed after a time stay, the begins raised to it; how many they are.
@@ -159,15 +121,20 @@ pub fn keep_running(journal: &mut [u8], used: usize, t: u64) -> usize
     requires { (used ≤ most_records) × (used * record_size ≤ length journal.old) }
     ensures { Compacted (kept t (records_in used journal.old)) (used * record_size) journal.old result journal.new }
 {
+    let records = Records::new(journal, used);
     let mut running = [0u32; Journal::RECORDS];
-    let opened = transactions::running_numbers(journal, used, &mut running);
+    let opened = transactions::running_numbers(records, &mut running);
     let mut lates = [0u32; Journal::RECORDS];
-    let late = times::late_numbers(journal, used, t, &mut lates);
+    let late = times::late_numbers(records, t, &mut lates);
+    let numbers = &lates[..late];
     let mut marks = [0u32; MARKS];
-    let alone = mark(&lates, late, &mut marks);
-    let count = keep(
-        journal, used, t, &running, opened, &lates, late, &marks, alone,
-    );
+    let alone = mark(numbers, &mut marks);
+    let lates = Marked {
+        numbers,
+        marks: &marks,
+        alone,
+    };
+    let count = keep(journal, used, t, &running[..opened], lates);
     zero(journal, count * Record::BYTES, used * Record::BYTES);
     count
 }
@@ -178,11 +145,18 @@ pub fn keep_done(journal: &mut [u8], used: usize, low: u64, end: usize) -> usize
     requires { (used ≤ most_records) × (used * record_size ≤ end) × (end ≤ length journal.old) × (accepts low (records_in used journal.old) ≡ true) }
     ensures { Compacted (survivors (records_in used journal.old)) end journal.old result journal.new }
 {
+    let records = Records::new(journal, used);
     let mut lates = [0u32; Journal::RECORDS];
-    let late = times::late_numbers(journal, used, low, &mut lates);
+    let late = times::late_numbers(records, low, &mut lates);
+    let numbers = &lates[..late];
     let mut marks = [0u32; MARKS];
-    let alone = mark(&lates, late, &mut marks);
-    let count = keep(journal, used, low, &lates, 0, &lates, late, &marks, alone);
+    let alone = mark(numbers, &mut marks);
+    let lates = Marked {
+        numbers,
+        marks: &marks,
+        alone,
+    };
+    let count = keep(journal, used, low, &[], lates);
     zero(journal, count * Record::BYTES, end);
     count
 }

@@ -66,19 +66,18 @@ loop-i-preserved c =
     let l = c.loop-i in
     let a = c.args in
     let j = a.journal.now in
-    let p = kept_in (take a.opened a.running.now) (take a.late a.lates.now) in
-    let y = l.invariant.2 in
-    let h : l.i * record_size + record_size ≤ length j = omega (arith, c.requires.0, c.loop-i-test.true) in (
-      omega arith,
+    let p = kept_in a.running.now a.lates.numbers.now in
+    let y = l.invariant.1 in
+    let h : l.i * record_size + record_size ≤ length j = omega (arith, c.requires) in (
       elim c.if-is_kept.branch [
         | then-is_kept w ↦ ap length (w.journal-is ∙ w.append.ensures)
-            ∙ length_appended l.journal l.count _ (omega (arith, y.few, l.invariant.1)) ∙ l.invariant.1
-        | else-is_kept w ↦ ap length w.journal-is ∙ l.invariant.1
+            ∙ length_appended l.journal l.count _ (omega (arith, y.few, l.invariant.0)) ∙ l.invariant.0
+        | else-is_kept w ↦ ap length w.journal-is ∙ l.invariant.0
       ],
       elim c.if-is_kept.branch [
-        | then-is_kept w ↦ stays p a.t j l.journal _ l.i l.count _ y l.invariant.1 h c.read-r.result _ c.read-r.ensures c.is_kept.ensures
+        | then-is_kept w ↦ stays p a.t j l.journal _ l.i l.count _ y l.invariant.0 h c.read-r.result _ c.read-r.ensures c.is_kept.ensures
             _ w.if-is_kept.true w.raise.ensures (w.journal-is ∙ w.append.ensures) w.count-is
-        | else-is_kept w ↦ goes p a.t j l.journal _ l.i l.count _ y l.invariant.1 h c.read-r.result _ c.read-r.ensures c.is_kept.ensures
+        | else-is_kept w ↦ goes p a.t j l.journal _ l.i l.count _ y l.invariant.0 h c.read-r.result _ c.read-r.ensures c.is_kept.ensures
             w.if-is_kept.false w.journal-is w.count-is
       ],
     )
