@@ -1,5 +1,5 @@
 // The whole store as a call reads it, of good shape: low and floor, the rows of the base and the records of the journal.
-ghost use Rattle.std.specs.Prelude.{◌≡◌, ◌+◌, ◌≤◌, None, length};
+ghost use Rattle.std.specs.Prelude.{◌≡◌, ◌+◌, ◌≤◌, None};
 ghost use Rattle.rules.specs.Limits.{most_records, most_rows};
 
 use crate::Head;
@@ -16,7 +16,6 @@ pub struct Store<'a> {
     pub base: BaseRows<'a>,
     pub records: Records<'a>,
     pub ghost few_rows: { base.count ≤ most_rows },
-    pub ghost paired: { length base.keys.now ≡ length base.values.now },
     pub ghost few_records: { records.used ≤ most_records },
 }
 
