@@ -1,15 +1,14 @@
 -- How the parts of a checkpoint make its contract: a law for each way out. Assumes nothing.
-use Rattle.std.specs.Prelude.{◌≡◌, refl, Bool, true, false, ℕ, eqb, None}
+use Rattle.std.specs.Prelude.{◌≡◌, refl, Bool, true, false, ℕ, eqb, None, Err}
 use Rattle.std.proofs.Common.{sym}
 use Rattle.answer.specs.declared.Refusal.{Refusal}
 use Rattle.answer.specs.declared.Refusal.TheVariants.{BadShape}
-use Rattle.answer.specs.declared.Done.TheVariants as done
+use Rattle.answer.specs.declared.Outcome.{Outcome}
 use Rattle.answer.specs.Reply.{Reply, refused, accepted, of_done, told}
 use Rattle.answer.specs.Laws.{refused_some, after_refused}
 use Rattle.versions.specs.Versions.{Columns}
 use Rattle.versions.specs.Columns.{Kept}
 use Rattle.map_store.specs.declared.MapHead.{MapHead}
-use Rattle.map_store.specs.declared.Outcome.{Outcome}
 use Rattle.map_store.specs.Meaning.{checkpoint_refusal}
 use Rattle.map_store.specs.Shape.{lengths, is_shaped, meaning}
 use Rattle.map_store.specs.CallContracts.{checkpoint_number, Checkpointed}
@@ -39,7 +38,7 @@ module _ (t : ℕ) (h : MapHead) (cs : Columns) where
       }
 
   module _ (shaped : is_shaped h (lengths cs) ≡ true) where
-    pub checkpoint_turned_down : (o : Outcome) (x : Refusal) → (o.head ≡ h) × (o.answer ≡ done.Refused x)
+    pub checkpoint_turned_down : (o : Outcome MapHead Unit) (x : Refusal) → (o.head ≡ h) × (o.answer ≡ Err x)
         → refused x ≡ told (checkpoint_refusal t (meaning h cs)) None → Checkpointed t h cs (of_done o.answer) o.head cs
     checkpoint_turned_down o x r d =
         rw (r.0, r.1)

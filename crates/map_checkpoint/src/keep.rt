@@ -2,20 +2,19 @@
 ghost use Rattle.std.specs.Prelude.{◌≡◌, false, ◌||◌, ℕ, ◌≤◌, ◌<◌, ltb, length, get_or, take};
 ghost use Rattle.rules.specs.Lists.{among};
 ghost use Rattle.versions.specs.Versions.{Columns, columns, keyed, version_at, versions_of, newest, is_row, is_kept};
+ghost use Rattle.versions.specs.Stamps.{versions_in};
 ghost use Rattle.versions.specs.Columns.{Spans, picked, Moved, cleared, Kept};
 ghost use Rattle.table.specs.Table.{Spare};
 
-use versions::Version;
+use versions::{Stamps, Version};
 
 // Picks those of the first rows that are after t.
 fn pick_late(times: &[u64], used: usize, t: u64, picks: &mut [bool])
     requires { (used ≤ length times.now) × (used ≤ length picks.old) }
     ensures { (i : ℕ) → i < used → get_or picks.new i false ≡ ltb t (get_or times.now i 0) }
 {
-    let mut i = 0;
-    while i < used {
+    for i in 0..used {
         picks[i] = times[i] > t;
-        i += 1;
     }
 }
 
@@ -24,44 +23,36 @@ fn pick_named(places: &[u32], n: usize, picks: &mut [bool])
     requires { (n ≤ length places.now) × ((x : ℕ) → x < n → get_or places.now x 0 < length picks.old) }
     ensures { (i : ℕ) → get_or picks.new i false ≡ (among i (take n places.now) || get_or picks.old i false) }
 {
-    let mut x = 0;
-    while x < n {
+    for x in 0..n {
         picks[places[x] as usize] = true;
-        x += 1;
     }
 }
 
 // Picks the newest version of key 0, which no table has.
-fn pick_zero(keys: &[u32], times: &[u64], used: usize, t: u64, picks: &mut [bool])
-    requires { (used ≤ length keys.now) × (used ≤ length times.now) × (used ≤ length picks.old) }
-    ensures { (others : Columns) (i : ℕ) → get_or picks.new i false ≡ (is_row i (newest 0 t (versions_of used (keyed keys.now times.now others))) || get_or picks.old i false) }
+fn pick_zero(stamps: Stamps<'_>, t: u64, picks: &mut [bool])
+    requires { stamps.used ≤ length picks.old }
+    ensures { (others : Columns) (i : ℕ) → get_or picks.new i false ≡ (is_row i (newest 0 t (versions_in stamps.entry others.values others.marks)) || get_or picks.old i false) }
 {
-    let found = versions::newest_row(keys, times, used, 0, t);
-    match found {
-        Some(j) => {
-            picks[j] = true;
-        }
-        None => {}
+    if let Some(j) = stamps.newest_row(0, t) {
+        picks[j] = true;
     }
 }
 
 // Picks the rows that are kept, by the table of the newest rows, for which two columns are lent. All are decided before one moves.
 fn pick_kept(
-    keys: &[u32],
-    times: &[u64],
-    used: usize,
+    stamps: Stamps<'_>,
     t: u64,
     listed: &mut [u32],
     places: &mut [u32],
     picks: &mut [bool],
 )
-    requires { (used ≤ Version.ROWS) × (used ≤ length keys.now) × (used ≤ length times.now) × Spare listed.old places.old used × (used ≤ length picks.old) }
-    ensures { (others : Columns) (i : ℕ) → i < used → get_or picks.new i false ≡ is_kept t (versions_of used (keyed keys.now times.now others)) i (version_at i (keyed keys.now times.now others)) }
+    requires { (stamps.used ≤ Version.ROWS) × Spare listed.old places.old stamps.used × (stamps.used ≤ length picks.old) }
+    ensures { (others : Columns) (i : ℕ) → i < stamps.entry.used → get_or picks.new i false ≡ is_kept t (versions_in stamps.entry others.values others.marks) i (version_at i (keyed stamps.entry.keys.now stamps.entry.times.now others)) }
 {
-    let n = newest::newest_rows(keys, times, used, t, listed, places);
-    pick_late(times, used, t, picks);
+    let n = newest::newest_rows(stamps, t, listed, places);
+    pick_late(stamps.times, stamps.used, t, picks);
     pick_named(places, n, picks);
-    pick_zero(keys, times, used, t, picks);
+    pick_zero(stamps, t, picks);
 }
 
 // Moves the picked rows up, in order, and answers how many there are.
@@ -77,8 +68,7 @@ fn move_up(
     ensures { Moved (picked picks.now (versions_of used (columns keys.old times.old values.old marks.old))) (columns keys.old times.old values.old marks.old) (columns keys.new times.new values.new marks.new) result }
 {
     let mut kept = 0;
-    let mut i = 0;
-    while i < used {
+    for i in 0..used {
         if picks[i] {
             keys[kept] = keys[i];
             times[kept] = times[i];
@@ -86,7 +76,6 @@ fn move_up(
             marks[kept] = marks[i];
             kept += 1;
         }
-        i += 1;
     }
     kept
 }
@@ -103,66 +92,38 @@ fn clear(
     requires { Spans to (columns keys.old times.old values.old marks.old) × (from ≤ to) }
     ensures { columns keys.new times.new values.new marks.new ≡ cleared from to (columns keys.old times.old values.old marks.old) }
 {
-    let mut i = from;
-    while i < to {
+    for i in from..to {
         keys[i] = 0;
         times[i] = 0;
         values[i] = 0;
         marks[i] = 0;
-        i += 1;
     }
 }
 
-// A checkpoint at t, for which two columns and picks are lent.
-fn keep(
+// A checkpoint at t of fewer than N versions, decided in columns of N cells aside.
+fn keep<const N: usize>(
     keys: &mut [u32],
     times: &mut [u64],
     values: &mut [u32],
     marks: &mut [u8],
     used: usize,
     t: u64,
-    listed: &mut [u32],
-    places: &mut [u32],
-    picks: &mut [bool],
 ) -> usize
-    requires { Spans used (columns keys.old times.old values.old marks.old) × (used ≤ Version.ROWS) × Spare listed.old places.old used × (used ≤ length picks.old) }
+    requires { Spans used (columns keys.old times.old values.old marks.old) × (used ≤ Version.ROWS) × (used < N) × (N ≤ Version.ASIDE) }
     ensures { Kept t used (columns keys.old times.old values.old marks.old) (columns keys.new times.new values.new marks.new) result }
 {
-    pick_kept(keys, times, used, t, listed, places, picks);
-    let kept = move_up(keys, times, values, marks, used, picks);
+    let mut listed = [0u32; N];
+    let mut places = [0u32; N];
+    let mut picks = [false; N];
+    let stamps = Stamps::new(keys, times, used);
+    pick_kept(stamps, t, &mut listed, &mut places, &mut picks);
+    let kept = move_up(keys, times, values, marks, used, &picks);
     clear(keys, times, values, marks, kept, used);
     kept
 }
 
-// A checkpoint of few versions, so that small columns are enough.
-fn keep_few(
-    keys: &mut [u32],
-    times: &mut [u64],
-    values: &mut [u32],
-    marks: &mut [u8],
-    used: usize,
-    t: u64,
-) -> usize
-    requires { Spans used (columns keys.old times.old values.old marks.old) × (used < Version.FEW) }
-    ensures { Kept t used (columns keys.old times.old values.old marks.old) (columns keys.new times.new values.new marks.new) result }
-{
-    let mut listed = [0u32; Version::FEW];
-    let mut places = [0u32; Version::FEW];
-    let mut picks = [false; Version::FEW];
-    keep(
-        keys,
-        times,
-        values,
-        marks,
-        used,
-        t,
-        &mut listed,
-        &mut places,
-        &mut picks,
-    )
-}
-
-// A checkpoint at t: kept versions move up in order, freed rows are zero. Answers how many versions are kept.
+// A checkpoint at t: kept versions move up in order, freed rows are zero. Answers how many versions are kept. For few versions small columns aside
+// are enough.
 pub fn keep_from(
     keys: &mut [u32],
     times: &mut [u64],
@@ -175,20 +136,7 @@ pub fn keep_from(
     ensures { Kept t used (columns keys.old times.old values.old marks.old) (columns keys.new times.new values.new marks.new) result }
 {
     if used < Version::FEW {
-        return keep_few(keys, times, values, marks, used, t);
+        return keep::<{ Version::FEW }>(keys, times, values, marks, used, t);
     }
-    let mut listed = [0u32; Version::ASIDE];
-    let mut places = [0u32; Version::ASIDE];
-    let mut picks = [false; Version::ASIDE];
-    keep(
-        keys,
-        times,
-        values,
-        marks,
-        used,
-        t,
-        &mut listed,
-        &mut places,
-        &mut picks,
-    )
+    keep::<{ Version::ASIDE }>(keys, times, values, marks, used, t)
 }

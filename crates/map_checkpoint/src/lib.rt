@@ -36,13 +36,7 @@ pub fn checkpoint(
     }
     let used = keep::keep_from(keys, times, values, marks, h.used, t);
     Outcome {
-        head: MapHead {
-            low: t,
-            last: h.last,
-            next: h.next,
-            used: used,
-            slots: slots,
-        },
+        head: MapHead { low: t, used, ..h },
         answer: Ok(()),
     }
 }

@@ -1,18 +1,17 @@
 -- How the parts of a commit make its contract: a law for each way out. Assumes nothing.
-use Rattle.std.specs.Prelude.{◌≡◌, refl, Bool, true, false, ℕ, ◌+◌, ◌≤◌, eqb, length, None}
+use Rattle.std.specs.Prelude.{◌≡◌, refl, Bool, true, false, ℕ, ◌+◌, ◌≤◌, eqb, length, None, Err}
 use Rattle.std.proofs.Common.{sym, arith}
 use Rattle.std.proofs.Math.Nat.{min-le_right}
 use Rattle.rules.specs.Limits.{most_versions}
 use Rattle.rules.specs.Calls.{Commit}
 use Rattle.answer.specs.declared.Refusal.{Refusal}
 use Rattle.answer.specs.declared.Refusal.TheVariants.{BadShape}
-use Rattle.answer.specs.declared.Done.TheVariants as done
+use Rattle.answer.specs.declared.Outcome.{Outcome}
 use Rattle.answer.specs.Reply.{Reply, refused, accepted, of_done}
 use Rattle.answer.specs.Laws.{refused_some, after_refused}
 use Rattle.versions.specs.Versions.{Columns}
 use Rattle.versions.specs.Columns.{Spans}
 use Rattle.map_store.specs.declared.MapHead.{MapHead}
-use Rattle.map_store.specs.declared.Outcome.{Outcome}
 use Rattle.map_store.specs.Meaning.{map_answer}
 use Rattle.map_store.specs.Shape.{lengths, is_shaped, Shaped, room_of, meaning}
 use Rattle.map_store.specs.CallContracts.{number, Decided, Committed}
@@ -41,7 +40,7 @@ module _ {n t : ℕ} {h : MapHead} {cs : Columns} where
         let q = number_good h cs (map_answer (room_of (length cs.keys)) (Commit n t)) shaped in
         record { answered = answered shaped d y p.headed; cells = changed _ _ None q a d.reply accepted y _ _ cs' p.cells }
 
-    pub commit_turned_down : (o : Outcome) (x : Refusal) → (o.head ≡ h) × (o.answer ≡ done.Refused x)
+    pub commit_turned_down : (o : Outcome MapHead Unit) (x : Refusal) → (o.head ≡ h) × (o.answer ≡ Err x)
         → Decided (Commit n t) (room_of (length cs.keys)) (meaning h cs) (refused x) → Committed n t h cs (of_done o.answer) o.head cs
     commit_turned_down o x r d = rw (r.0, r.1) (committed d {accepted = false} (sym (refused_some x)) (record { headed = refl; cells = refl }))
 

@@ -8,7 +8,7 @@ use Rattle.rules.specs.Effects.{is_add}
 use Rattle.column.specs.Column.{first_row}
 use Rattle.slot.specs.declared.Slot.{Slot}
 use Rattle.slot.specs.Slot.{effect_at}
-use Rattle.slot.specs.Slots.{is_found}
+use Rattle.std.specs.Option.{is_some}
 use Rattle.slot.specs.Formed.{Rowed}
 use Rattle.slot.specs.Places.{Note, has_key}
 use Rattle.slot.specs.RowLaws.{has_row}
@@ -26,7 +26,7 @@ up_to s i = record { number = s.number; snapshot = s.snapshot; count = i; keys =
 
 module _ (s : Slot) where
   -- a key has one of the first i rows exactly if it is found among them
-  pub has_before : Rowed s → (i k : ℕ) → i < s.count → has_key k (rows_to s i) ≡ is_found (first_row k (take i s.keys))
+  pub has_before : Rowed s → (i k : ℕ) → i < s.count → has_key k (rows_to s i) ≡ is_some (first_row k (take i s.keys))
   has_before w i k l =
       has_row (up_to s i) (record { keys = w.keys; values = w.values; marks = w.marks; count = omega (arith, w.count) }) k
 

@@ -5,7 +5,8 @@ ghost use Rattle.std.specs.Prelude.{◌≡◌, List, ℕ, ◌+◌, ◌≤◌, �
 ghost use Rattle.answer.specs.Reply.{of_done};
 ghost use Rattle.slot.specs.Formed.{Rowed};
 ghost use Rattle.slot.specs.Places.{slot_rows};
-ghost use Rattle.versions.specs.Versions.{columns, versions_of};
+ghost use Rattle.versions.specs.Versions.{columns};
+ghost use Rattle.versions.specs.Stamps.{versions_in};
 ghost use Rattle.versions.specs.Columns.{Spans};
 ghost use Rattle.map_store.specs.Meaning.{firsts, clash, version_of};
 ghost use Rattle.map_store.specs.Shape.{room_of};
@@ -15,16 +16,13 @@ ghost use Rattle.map_commit.specs.Commit.{row_at, is_first, newest_in, Stamped};
 use answer::{Outcome, Refusal};
 use map_store::MapHead;
 use slot::Slot;
-use versions::Version;
+use versions::{Stamps, Version};
 
 // How many versions the lent columns have room for, at most the limit.
 fn room(rows: usize) -> usize
     ensures { result ≡ room_of rows }
 {
-    if Version::ROWS < rows {
-        return Version::ROWS;
-    }
-    rows
+    Version::ROWS.min(rows)
 }
 
 // Whether row i of a slot is the first that has its key: of one key twice it alone counts.
@@ -34,10 +32,7 @@ fn is_first(s: Slot, i: usize) -> bool
 {
     let written = s.keys;
     let k = written[i];
-    match column::find(&written, i, k) {
-        Some(_) => false,
-        None => true,
-    }
+    column::find(&written, i, k).is_none()
 }
 
 // How many keys the transaction of a slot wrote.
@@ -45,66 +40,42 @@ fn count_written(s: Slot) -> usize
     requires { Rowed s }
     ensures { result ≡ length (firsts (slot_rows s)) }
 {
-    let rows = s.count;
     let mut count = 0;
-    let mut i = 0;
-    while i < rows {
+    for i in 0..s.count {
         if is_first(s, i) {
             count += 1;
         }
-        i += 1;
     }
     count
 }
 
 // Rule 3.6: whether a key that the transaction of a slot wrote has a version later than its snapshot that met it.
-fn conflicts(s: Slot, keys: &[u32], times: &[u64], marks: &[u8], used: usize) -> bool
-    requires { Rowed s × (used ≤ length keys.now) × (used ≤ length times.now) × (used ≤ length marks.now) }
-    ensures { (values : List ℕ) → result ≡ clash s.snapshot (firsts (slot_rows s)) (versions_of used (columns keys.now times.now values marks.now)) }
+fn conflicts(s: Slot, stamps: Stamps<'_>, marks: &[u8]) -> bool
+    requires { Rowed s × (stamps.used ≤ length marks.now) }
+    ensures { (values : List ℕ) → result ≡ clash s.snapshot (firsts (slot_rows s)) (versions_in stamps.entry values marks.now) }
 {
     let written = s.keys;
-    let rows = s.count;
-    let from = versions::first_late(times, used, s.snapshot);
-    let mut i = 0;
-    while i < rows {
+    let from = versions::first_late(stamps.times, stamps.used, s.snapshot);
+    for i in 0..s.count {
         if is_first(s, i) {
             let e = s.effect(i);
-            if versions::is_later(
-                keys,
-                times,
-                marks,
-                from,
-                used,
-                written[i],
-                e.adds(),
-                s.snapshot,
-            ) {
+            if stamps.is_later(marks, from, written[i], e.adds(), s.snapshot) {
                 return true;
             }
         }
-        i += 1;
     }
     false
 }
 
 // Rule 3.8: the version of row i of a slot at t: its effect on the newest committed value, which is that at last, marked if it only adds.
-fn version(
-    s: Slot,
-    i: usize,
-    keys: &[u32],
-    times: &[u64],
-    values: &[u32],
-    used: usize,
-    last: u64,
-    t: u64,
-) -> Version
-    requires { Rowed s × (i < s.count) × (used ≤ length keys.now) × (used ≤ length times.now) × (used ≤ length values.now) }
-    ensures { (marks : List ℕ) → result ≡ version_of (newest_in last used (columns keys.now times.now values.now marks)) t (row_at s i) }
+fn version(s: Slot, i: usize, stamps: Stamps<'_>, values: &[u32], last: u64, t: u64) -> Version
+    requires { Rowed s × (i < s.count) × (stamps.used ≤ length values.now) }
+    ensures { (marks : List ℕ) → result ≡ version_of (newest_in last stamps.entry.used (columns stamps.entry.keys.now stamps.entry.times.now values.now marks)) t (row_at s i) }
 {
     let written = s.keys;
     let k = written[i];
     let e = s.effect(i);
-    let value = versions::applied_at(keys, times, values, used, k, last, e);
+    let value = versions::applied_at(stamps, values, k, last, e);
     Version {
         key: k,
         time: t,
@@ -127,16 +98,13 @@ fn stamp(
     requires { Rowed s × (used ≤ Version.ROWS) × Spans (used + length (firsts (slot_rows s))) (columns keys.old times.old values.old marks.old) }
     ensures { Stamped (newest_in last used (columns keys.old times.old values.old marks.old)) t used (firsts (slot_rows s)) (columns keys.old times.old values.old marks.old) (columns keys.new times.new values.new marks.new) result }
 {
-    let rows = s.count;
     let mut at = used;
-    let mut i = 0;
-    while i < rows {
+    for i in 0..s.count {
         if is_first(s, i) {
-            let v = version(s, i, keys, times, values, used, last, t);
+            let v = version(s, i, Stamps::new(keys, times, used), values, last, t);
             versions::append(keys, times, values, marks, at, v);
             at += 1;
         }
-        i += 1;
     }
     at
 }
@@ -157,15 +125,14 @@ pub fn commit(
         return map_store::refused(h, Refusal::BadShape);
     }
     let slots = h.slots;
-    let found = slots.find(n);
-    let Some(i) = found else {
+    let Some(i) = slots.find(n) else {
         return map_store::refused(h, Refusal::UnknownTransaction);
     };
     if t <= h.last {
         return map_store::refused(h, Refusal::NotLater);
     }
     let s = slots.slots[i];
-    if conflicts(s, keys, times, marks, h.used) {
+    if conflicts(s, Stamps::new(keys, times, h.used), marks) {
         return map_store::refused(h, Refusal::Conflict);
     }
     if room(keys.len()) < h.used + count_written(s) {
@@ -174,11 +141,10 @@ pub fn commit(
     let used = stamp(s, keys, times, values, marks, h.used, h.last, t);
     Outcome {
         head: MapHead {
-            low: h.low,
             last: t,
-            next: h.next,
-            used: used,
+            used,
             slots: slots.closed(i),
+            ..h
         },
         answer: Ok(()),
     }

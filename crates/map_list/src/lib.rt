@@ -3,80 +3,35 @@
 
 ghost use Rattle.std.specs.Prelude.{◌≡◌, List, ℕ, ◌≤◌, ◌<◌, length};
 ghost use Rattle.answer.specs.Reply.{of_listed};
-ghost use Rattle.versions.specs.Versions.{columns, versions_of, list_at};
-ghost use Rattle.table.specs.Table.{Spare};
+ghost use Rattle.versions.specs.Versions.{columns, list_at};
+ghost use Rattle.versions.specs.Stamps.{versions_in};
 ghost use Rattle.map_store.specs.CallContracts.{ListedAt};
 ghost use Rattle.map_list.specs.List.{ListedIn};
 
 use answer::Refusal;
 use map_store::MapHead;
-use versions::Version;
+use versions::{Stamps, Version};
 
-// The list of the first versions at t: computed in two columns aside, and copied where the lent ones have a row for each of its own.
-fn write(
-    keys: &[u32],
-    times: &[u64],
+// The list at t: computed in two columns of N cells aside, and copied where the lent ones have a row for each of its own.
+fn write<const N: usize>(
+    stamps: Stamps<'_>,
     values: &[u32],
-    used: usize,
     t: u64,
-    listed: &mut [u32],
-    contents: &mut [u32],
     out_keys: &mut [u32],
     out_values: &mut [u32],
 ) -> Result<usize, Refusal>
-    requires { (used ≤ length keys.now) × (used ≤ length times.now) × (used ≤ length values.now) × (used ≤ Version.ROWS) × Spare listed.old contents.old used × (length out_keys.old ≡ length out_values.old) }
-    ensures { (marks : List ℕ) → ListedIn (list_at (versions_of used (columns keys.now times.now values.now marks)) t) out_keys.old out_values.old (of_listed result) out_keys.new out_values.new }
+    requires { (stamps.used ≤ length values.now) × (stamps.used ≤ Version.ROWS) × (stamps.used < N) × (N ≤ Version.ASIDE) × (length out_keys.old ≡ length out_values.old) }
+    ensures { (marks : List ℕ) → ListedIn (list_at (versions_in stamps.entry values.now marks) t) out_keys.old out_values.old (of_listed result) out_keys.new out_values.new }
 {
-    let count = newest::listing(keys, times, values, used, t, listed, contents);
+    let mut listed = [0u32; N];
+    let mut contents = [0u32; N];
+    let count = newest::listing(stamps, values, t, &mut listed, &mut contents);
     if out_keys.len() < count {
         return Err(Refusal::NoRoom);
     }
-    column::copy(listed, count, out_keys);
-    column::copy(contents, count, out_values);
+    column::copy(&listed, count, out_keys);
+    column::copy(&contents, count, out_values);
     Ok(count)
-}
-
-// The same with columns of its own: for few versions small ones are enough.
-fn write_any(
-    keys: &[u32],
-    times: &[u64],
-    values: &[u32],
-    used: usize,
-    t: u64,
-    out_keys: &mut [u32],
-    out_values: &mut [u32],
-) -> Result<usize, Refusal>
-    requires { (used ≤ length keys.now) × (used ≤ length times.now) × (used ≤ length values.now) × (used ≤ Version.ROWS) × (length out_keys.old ≡ length out_values.old) }
-    ensures { (marks : List ℕ) → ListedIn (list_at (versions_of used (columns keys.now times.now values.now marks)) t) out_keys.old out_values.old (of_listed result) out_keys.new out_values.new }
-{
-    if used < Version::FEW {
-        let mut listed = [0u32; Version::FEW];
-        let mut contents = [0u32; Version::FEW];
-        return write(
-            keys,
-            times,
-            values,
-            used,
-            t,
-            &mut listed,
-            &mut contents,
-            out_keys,
-            out_values,
-        );
-    }
-    let mut listed = [0u32; Version::ASIDE];
-    let mut contents = [0u32; Version::ASIDE];
-    write(
-        keys,
-        times,
-        values,
-        used,
-        t,
-        &mut listed,
-        &mut contents,
-        out_keys,
-        out_values,
-    )
 }
 
 // The list at t, in the first rows of two lent columns. Answers how many rows it has.
@@ -104,5 +59,9 @@ pub fn list(
     if h.last < t {
         return Err(Refusal::Future);
     }
-    write_any(keys, times, values, h.used, t, out_keys, out_values)
+    let stamps = Stamps::new(keys, times, h.used);
+    if h.used < Version::FEW {
+        return write::<{ Version::FEW }>(stamps, values, t, out_keys, out_values);
+    }
+    write::<{ Version::ASIDE }>(stamps, values, t, out_keys, out_values)
 }

@@ -1,12 +1,12 @@
 -- How a call's parts make its contract: what was decided on the meaning, then done to the cells if it was accepted. Assumes nothing.
-use Rattle.std.specs.Prelude.{◌≡◌, refl, Bool, true, false, cond, ℕ, ◌<◌, eqb, length, None, Option, Some}
+use Rattle.std.specs.Prelude.{◌≡◌, refl, Bool, true, false, cond, ℕ, ◌<◌, eqb, length, None, Option, Some, Err, Ok}
 use Rattle.std.proofs.Common.{sym, ap, ◌∙◌, eqb-true}
 use Rattle.rules.specs.Limits.{numbers_end}
 use Rattle.rules.specs.Value.{Value}
 use Rattle.rules.specs.Calls.{Call, Begin}
 use Rattle.answer.specs.declared.Refusal.{Refusal}
 use Rattle.answer.specs.declared.Refusal.TheVariants.{BadShape}
-use Rattle.answer.specs.declared.Done.TheVariants as done
+use Rattle.answer.specs.declared.Outcome.{Outcome}
 use Rattle.answer.specs.Reply.{Reply, refused, accepted, of_done, told, after}
 use Rattle.answer.specs.Laws.{refused_some, after_refused}
 use Rattle.slot.specs.declared.Slots.{Slots}
@@ -17,7 +17,6 @@ use Rattle.slot.specs.Places.{free, place_of, place_in, places_of, taken_by}
 use Rattle.slot.specs.PlaceLaws.{place_slot}
 use Rattle.versions.specs.Versions.{Columns}
 use Rattle.map_store.specs.declared.MapHead.{MapHead}
-use Rattle.map_store.specs.declared.Outcome.{Outcome}
 use Rattle.map_store.specs.Meaning.{MapStore, map_answer, gives}
 use Rattle.map_store.specs.Shape.{lengths, is_shaped, room_of, meaning}
 use Rattle.map_store.specs.Heads.{head_after}
@@ -82,12 +81,12 @@ module _ {c : Call} {h : MapHead} {cs : Columns} where
         }
 
     -- a call that is refused changes nothing
-    pub turned_down : (o : Outcome) (x : Refusal) → (o.head ≡ h) × (o.answer ≡ done.Refused x)
+    pub turned_down : (o : Outcome MapHead Unit) (x : Refusal) → (o.head ≡ h) × (o.answer ≡ Err x)
         → Decided c (room_of (length cs.keys)) (meaning h cs) (refused x) → Answered c h cs (of_done o.answer) o.head
     turned_down o x r d = rw (r.0, r.1) (answered d (sym (refused_some x)) refl)
 
     -- one that is accepted leaves the head that it is to leave
-    pub carried_out : (o : Outcome) (head : MapHead) → (o.head ≡ head) × (o.answer ≡ done.Accepted)
+    pub carried_out : (o : Outcome MapHead Unit) (head : MapHead) → (o.head ≡ head) × (o.answer ≡ Ok tt)
         → Decided c (room_of (length cs.keys)) (meaning h cs) (accepted None) → head ≡ head_after c h
         → Answered c h cs (of_done o.answer) o.head
     carried_out o head r d e = rw (r.0, r.1) (answered d {accepted = true} refl e)

@@ -41,11 +41,9 @@ fn open(h: MapHead, accepted: bool, t: u64) -> MapHead
     if accepted {
         let slots = h.slots;
         return MapHead {
-            low: h.low,
-            last: h.last,
             next: h.next + 1,
-            used: h.used,
             slots: slots.opened(h.next, t),
+            ..h
         };
     }
     h

@@ -5,7 +5,7 @@
 ghost use Rattle.std.specs.Prelude.{◌≡◌, true, List, ℕ, ◌≤◌, length};
 ghost use Rattle.slot.specs.Formed.{Rowed};
 ghost use Rattle.slot.specs.Places.{slot_rows};
-ghost use Rattle.versions.specs.Versions.{columns, versions_of};
+ghost use Rattle.versions.specs.Stamps.{versions_in};
 ghost use Rattle.map_store.specs.Meaning.{current};
 ghost use Rattle.map_store.specs.Heads.{with_slots};
 ghost use Rattle.map_store.specs.Shape.{empty_head, is_shaped, Shaped};
@@ -13,7 +13,7 @@ ghost use Rattle.map_store.specs.Shape.{empty_head, is_shaped, Shaped};
 use answer::{Outcome, Refusal};
 use rules::Value;
 use slot::{Slot, Slots};
-use versions::Version;
+use versions::{Stamps, Version};
 
 pub mod abort;
 pub mod begin;
@@ -94,27 +94,21 @@ fn accepted(h: MapHead, slots: Slots) -> Outcome<MapHead, ()>
     ensures { (result.head ≡ with_slots h slots) × (result.answer ≡ Ok tt) }
 {
     Outcome {
-        head: MapHead {
-            low: h.low,
-            last: h.last,
-            next: h.next,
-            used: h.used,
-            slots: slots,
-        },
+        head: MapHead { slots, ..h },
         answer: Ok(()),
     }
 }
 
 // Rule 3.5: what the transaction of a slot reads in k: what its row makes of the value at the snapshot, or that value where it has none.
-fn current_value(s: Slot, keys: &[u32], times: &[u64], values: &[u32], used: usize, k: u32) -> Value
-    requires { Rowed s × (used ≤ length keys.now) × (used ≤ length times.now) × (used ≤ length values.now) }
-    ensures { (marks : List ℕ) → result ≡ current k s.snapshot (slot_rows s) (versions_of used (columns keys.now times.now values.now marks)) }
+fn current_value(s: Slot, stamps: Stamps<'_>, values: &[u32], k: u32) -> Value
+    requires { Rowed s × (stamps.used ≤ length values.now) }
+    ensures { (marks : List ℕ) → result ≡ current k s.snapshot (slot_rows s) (versions_in stamps.entry values.now marks) }
 {
     match s.find(k) {
         Some(i) => {
             let e = s.effect(i);
-            versions::applied_at(keys, times, values, used, k, s.snapshot, e)
+            versions::applied_at(stamps, values, k, s.snapshot, e)
         }
-        None => versions::value_at(keys, times, values, used, k, s.snapshot),
+        None => versions::value_at(stamps, values, k, s.snapshot),
     }
 }

@@ -9,6 +9,7 @@ ghost use Rattle.map_store.specs.CallContracts.{lookup_reply};
 use crate::MapHead;
 use answer::Refusal;
 use rules::Value;
+use versions::Stamps;
 
 // What a store of good shape answers.
 fn decide(
@@ -32,7 +33,8 @@ fn decide(
     if h.last < t {
         return Err(Refusal::Future);
     }
-    Ok(versions::value_at(keys, times, values, h.used, k, t))
+    let stamps = Stamps::new(keys, times, h.used);
+    Ok(versions::value_at(stamps, values, k, t))
 }
 
 // The value of k at t, or absent.

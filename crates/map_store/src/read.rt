@@ -9,6 +9,7 @@ ghost use Rattle.map_store.specs.CallContracts.{read_reply};
 use crate::MapHead;
 use answer::Refusal;
 use rules::Value;
+use versions::Stamps;
 
 // What a store of good shape answers.
 fn decide(
@@ -24,16 +25,15 @@ fn decide(
     ensures { of_got result ≡ told (read_refusal n k (meaning h (columns keys.now times.now values.now marks.now))) (read_in n k (meaning h (columns keys.now times.now values.now marks.now))) }
 {
     let slots = h.slots;
-    match slots.find(n) {
-        Some(i) => {
-            if k == 0 {
-                return Err(Refusal::BadKey);
-            }
-            let s = slots.at(i);
-            Ok(crate::current_value(s, keys, times, values, h.used, k))
-        }
-        None => Err(Refusal::UnknownTransaction),
+    let Some(i) = slots.find(n) else {
+        return Err(Refusal::UnknownTransaction);
+    };
+    if k == 0 {
+        return Err(Refusal::BadKey);
     }
+    let s = slots.at(i);
+    let stamps = Stamps::new(keys, times, h.used);
+    Ok(crate::current_value(s, stamps, values, k))
 }
 
 // What the transaction reads in k: the value at its snapshot, then its own updates.

@@ -18,10 +18,7 @@ fn is_full(s: Slot, k: u32) -> bool
     requires { Rowed s }
     ensures { result ≡ not (has_key k (slot_rows s) || ltb (length (slot_rows s)) most_keys) }
 {
-    match s.find(k) {
-        Some(_) => false,
-        None => Slot::KEYS <= s.count,
-    }
+    s.find(k).is_none() && Slot::KEYS <= s.count
 }
 
 // Notes an effect of a running transaction on a key. The slots are copied once, changed at one place and returned within the head.
@@ -41,8 +38,7 @@ pub fn update(
         return crate::refused(h, Refusal::BadShape);
     }
     let mut slots = h.slots;
-    let found = slots.find(n);
-    let Some(i) = found else {
+    let Some(i) = slots.find(n) else {
         return crate::refused(h, Refusal::UnknownTransaction);
     };
     if k == 0 {

@@ -1,5 +1,5 @@
 -- How a search passes rows that do not count. Assumes nothing.
-use Rattle.std.specs.Prelude.{◌≡◌, Bool, false, ◌||◌, List, [], ◌∷◌, ℕ, ◌≤◌, ◌<◌, get_or}
+use Rattle.std.specs.Prelude.{◌≡◌, List, ℕ, ◌≤◌, ◌<◌, get_or}
 
 -- no row from m up to r, of n, has k
 pub record Passed (k : ℕ) (ks : List ℕ) (m n r : ℕ) : Type 0 where

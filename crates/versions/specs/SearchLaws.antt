@@ -1,9 +1,8 @@
 -- Rows that a search passes change nothing of what it finds. Assumes nothing.
-use Rattle.std.specs.Prelude.{◌≡◌, refl, Bool, true, false, ◌||◌, List, [], ◌∷◌, ℕ, zero, suc, ◌+◌, ◌-◌, ◌≤◌, ◌<◌, eqb, ltb, length, get_or, take, drop}
-use Rattle.std.proofs.Common.{sym, ◌∙◌, arith, add-one, ne_eqb, ltb-true, ltb-false, le-ltb, length-drop, drop-cons, get_or-take, get_or-drop, length-take-le}
+use Rattle.std.specs.Prelude.{◌≡◌, refl, Bool, false, List, [], ◌∷◌, ℕ, zero, suc, ◌+◌, ◌-◌, ◌≤◌, ◌<◌, eqb, ltb, length, get_or, take, drop}
+use Rattle.std.proofs.Common.{arith, ne_eqb, ltb-true, ltb-false, le-ltb, length-drop, get_or-take, get_or-drop, length-take-le}
 use Rattle.std.proofs.lemmas.Bool.{eqb-false}
-use Rattle.std.proofs.Math.Seq.{drop-length}
-use Rattle.rules.specs.Bools.{split, or_left, or_right, or_none_left, or_none_right, and_false, or_false}
+use Rattle.rules.specs.Bools.{split, or_none_left, or_none_right, and_false}
 use Rattle.versions.specs.Versions.{Columns, versions_of, newest, later}
 use Rattle.std.specs.List.{list_any}
 use Rattle.versions.specs.Search.{Passed, Early}

@@ -22,7 +22,7 @@ use Rattle.map_commit.specs.Commit.{newest_in, Stamped, Put}
 use Rattle.map_commit.specs.CommitLaws.{room_lent, commit_turned_down, commit_carried_out}
 use Rattle.map_commit.specs.RowLaws.{length_firsts}
 use Rattle.map_commit.proofs.commit.Goals as goal
-use Rattle.map_commit.proofs.commit.Goals.{In-At}
+use Rattle.map_commit.proofs.commit.Goals.{In-Some}
 
 -- the rows that count are written, and the slot that was found is freed
 freed : {n t : ℕ} {h : MapHead} {cs cs' : Columns} {f : Option ℕ} → f ≡ slot_of h.slots n → {i : ℕ} → f ≡ Some i → {r : ℕ}
@@ -55,15 +55,20 @@ returns-in_default c =
 pub returns-then-t-h : goal.returns-then-t-h
 returns-then-t-h c = commit_turned_down (passes (goal.at.returns-then-t-h c).In-Some) _ NotLater c.refused-then-t-h.ensures (commit_later (place (goal.at.returns-then-t-h c).In-Some) c.if-t-h.true)
 
+pub new-requires : goal.new-requires
+new-requires c =
+    let l = lent c.args.h (cells (goal.at.new-requires c).In-Some) (good (goal.at.new-requires c).In-Some) in
+    (l.keys, l.times)
+
 pub conflicts-requires : goal.conflicts-requires
 conflicts-requires c =
     let l = lent c.args.h (cells (goal.at.conflicts-requires c).In-Some) (good (goal.at.conflicts-requires c).In-Some) in
-    (rowed (goal.at.conflicts-requires c).In-Some, l.keys, l.times, l.marks)
+    (rowed (goal.at.conflicts-requires c).In-Some, rw c.new.ensures.2 l.marks)
 
 pub returns-then-conflicts : goal.returns-then-conflicts
 returns-then-conflicts c =
     commit_turned_down (passes (goal.at.returns-then-conflicts c).In-Some) _ Conflict c.refused-then-conflicts.ensures
-    (commit_conflict (place (goal.at.returns-then-conflicts c).In-Some) c.if-t-h.false (c.conflicts.ensures (cells (goal.at.returns-then-conflicts c).In-Some).values) c.if-conflicts.true)
+    (commit_conflict (place (goal.at.returns-then-conflicts c).In-Some) c.if-t-h.false (rw (c.new.ensures.0, c.new.ensures.1, c.new.ensures.2) at (c.conflicts.ensures (cells (goal.at.returns-then-conflicts c).In-Some).values)) c.if-conflicts.true)
 
 pub count_written-requires : goal.count_written-requires
 count_written-requires c = rowed (goal.at.count_written-requires c).In-Some
@@ -76,7 +81,7 @@ overflow_add-h c =
 pub returns-then-room-h : goal.returns-then-room-h
 returns-then-room-h c =
     commit_turned_down (passes (goal.at.returns-then-room-h c).In-Some) _ NoRoom c.refused-then-room-h.ensures
-    (commit_room (place (goal.at.returns-then-room-h c).In-Some) c.if-t-h.false (c.conflicts.ensures (cells (goal.at.returns-then-room-h c).In-Some).values) c.if-conflicts.false (length_versions c.args.h.used (cells (goal.at.returns-then-room-h c).In-Some))
+    (commit_room (place (goal.at.returns-then-room-h c).In-Some) c.if-t-h.false (rw (c.new.ensures.0, c.new.ensures.1, c.new.ensures.2) at (c.conflicts.ensures (cells (goal.at.returns-then-room-h c).In-Some).values)) c.if-conflicts.false (length_versions c.args.h.used (cells (goal.at.returns-then-room-h c).In-Some))
     c.count_written.ensures (rw c.room.ensures at c.if-room-h.true))
 
 pub stamp-used-requires : goal.stamp-used-requires
@@ -85,6 +90,6 @@ stamp-used-requires c = (rowed (goal.at.stamp-used-requires c).In-Some, (good (g
 pub returns : goal.returns
 returns c =
     commit_carried_out (passes (goal.at.returns c).In-Some)
-    (commit_done (place (goal.at.returns c).In-Some) c.if-t-h.false (c.conflicts.ensures (cells (goal.at.returns c).In-Some).values) c.if-conflicts.false (length_versions c.args.h.used (cells (goal.at.returns c).In-Some))
+    (commit_done (place (goal.at.returns c).In-Some) c.if-t-h.false (rw (c.new.ensures.0, c.new.ensures.1, c.new.ensures.2) at (c.conflicts.ensures (cells (goal.at.returns c).In-Some).values)) c.if-conflicts.false (length_versions c.args.h.used (cells (goal.at.returns c).In-Some))
     c.count_written.ensures (rw c.room.ensures at c.if-room-h.false))
     (freed c.in-Some.ensures.value refl c.stamp-used.ensures c.closed.ensures)

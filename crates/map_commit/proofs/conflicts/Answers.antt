@@ -1,4 +1,4 @@
--- `map_commit::conflicts` meets its contract: the loop's invariant is that none of the first i rows clashes; the measure is how many rows are left. Assumes nothing.
+-- `map_commit::conflicts` meets its contract: the loop's invariant is that none of the first i rows clashes. Assumes nothing.
 use mathlib.Core.Path.{◌≡◌, sym, ◌∙◌}
 use mathlib.Core.Bool.{Bool, true}
 use mathlib.Core.List.{List}
@@ -9,7 +9,8 @@ use Rattle.rules.specs.Effects.{is_add}
 use Rattle.slot.specs.declared.Slot.{Slot}
 use Rattle.slot.specs.Slot.{effect_at}
 use Rattle.versions.specs.declared.Version.{Version}
-use Rattle.versions.specs.Versions.{columns, versions_of, later}
+use Rattle.versions.specs.Versions.{later}
+use Rattle.versions.specs.Stamps.{versions_in}
 use Rattle.map_store.specs.Meaning.{firsts, clash}
 use Rattle.map_commit.specs.Commit.{rows_to, is_first}
 use Rattle.map_commit.specs.RowLaws.{clash_here, clash_among}
@@ -28,5 +29,5 @@ module _ (s : Slot) (versions : List Version) (i : ℕ) (f : Bool) (g : f ≡ is
 pub returns-then-is_later : goal.returns-then-is_later
 returns-then-is_later c values =
     let a = c.args in
-    hit a.s (versions_of a.used (columns a.keys.now a.times.now values a.marks.now)) c.loop-i.i _ c.is_first.ensures c.if-is_first.true
+    hit a.s (versions_in a.stamps values a.marks.now) c.loop-i.i _ c.is_first.ensures c.if-is_first.true
     _ c.effect-e.ensures _ c.adds.ensures _ (c.is_later.ensures values) a.s.count c.loop-i-test.true c.if-is_later.true

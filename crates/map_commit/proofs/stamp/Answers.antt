@@ -1,4 +1,4 @@
--- `map_commit::stamp` meets its contract: the loop's invariant is that the rows that count among the first i are written; the measure is how many rows are left. Assumes nothing.
+-- `map_commit::stamp` meets its contract: the loop's invariant is that the rows that count among the first i are written. Assumes nothing.
 use mathlib.Core.Path.{◌≡◌, sym, ap, ◌∙◌}
 use mathlib.Core.Bool.{Bool, true, false}
 use mathlib.Core.List.{List}
@@ -57,7 +57,7 @@ pub append-requires : goal.append-requires
 append-requires c =
     let a = c.args in
     let cs = columns a.keys.now a.times.now a.values.now a.marks.now in
-    room a.s a.last a.t a.used cs c.loop-i.i _ _ c.loop-i.invariant.2
+    room a.s a.last a.t a.used cs c.loop-i.i _ _ c.loop-i.invariant.1
     _ c.is_first.ensures a.s.count c.loop-i-test.true c.if-is_first.true c.requires.2
 
 pub loop-i-preserved : goal.loop-i-preserved
@@ -67,17 +67,15 @@ loop-i-preserved c =
     let l = c.loop-i in
     elim c.if-is_first.branch [
       | then-is_first w ↦ (
-        omega arith,
-        omega (arith, l.invariant.1, w.at-is),
+        omega (arith, l.invariant.0, w.at-is),
         rw (w.keys-is, w.times-is, w.values-is, w.marks-is, w.at-is)
-            (more a.s a.last a.t a.used cs l.i _ _ l.invariant.2
-            _ c.is_first.ensures w.if-is_first.true _ (w.version-v.ensures l.marks) _ w.append.ensures),
+            (more a.s a.last a.t a.used cs l.i _ _ l.invariant.1
+            _ c.is_first.ensures w.if-is_first.true _ (rw (w.new.ensures.0, w.new.ensures.1, w.new.ensures.2) at (w.version-v.ensures l.marks)) _ w.append.ensures),
       )
       | else-is_first w ↦ (
-        omega arith,
-        omega (arith, l.invariant.1, w.at-is),
+        omega (arith, l.invariant.0, w.at-is),
         rw (w.keys-is, w.times-is, w.values-is, w.marks-is, w.at-is)
-            (same a.s a.last a.t a.used cs l.i _ _ l.invariant.2
+            (same a.s a.last a.t a.used cs l.i _ _ l.invariant.1
             _ c.is_first.ensures w.if-is_first.false),
       )
     ]

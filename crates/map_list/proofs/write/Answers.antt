@@ -29,14 +29,14 @@ module _ (rows : List Row) (oks ovs : List ℕ) {a b a' b' : List ℕ} {n : ℕ}
       }
 
 pub copy-requires : goal.copy-requires
-copy-requires c = ((next_within _ _ _ _ _ _ (c.listing-count.ensures [])).in_keys, omega arith)
+copy-requires g c = ((next_within _ _ _ _ _ _ (c.listing-count.ensures [])).in_keys, omega arith)
 
 pub copy-requires-2 : goal.copy-requires-2
-copy-requires-2 c = ((next_within _ _ _ _ _ _ (c.listing-count.ensures [])).in_values, omega (arith, c.if-out_keys-count.false))
+copy-requires-2 g c = ((next_within _ _ _ _ _ _ (c.listing-count.ensures [])).in_values, omega (arith, c.if-out_keys-count.false))
 
 pub returns : goal.returns
-returns c marks =
+returns g c marks =
     let a = c.args in
-    let cs = columns a.keys.now a.times.now a.values.now marks in
-    copied (list_at (versions_of a.used cs) a.t) a.out_keys.now a.out_values.now
+    let cs = columns a.stamps.keys.now a.stamps.times.now a.values.now marks in
+    copied (list_at (versions_of a.stamps.used cs) a.t) a.out_keys.now a.out_values.now
     (c.listing-count.ensures marks) c.if-out_keys-count.false c.copy.ensures c.copy-2.ensures

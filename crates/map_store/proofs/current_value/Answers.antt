@@ -26,11 +26,11 @@ module _ (s : Slot) (w : Rowed s) (k : ℕ) (vs : List Version) (f : Option ℕ)
 pub returns-in-Some : goal.returns-in-Some
 returns-in-Some c marks =
     let a = c.args in
-    let cs = columns a.keys.now a.times.now a.values.now marks in
-    own a.s c.requires.0 a.k (versions_of a.used cs) _ c.in-Some.ensures.value _ _ refl _ c.effect-e.ensures (c.applied_at.ensures marks)
+    let cs = columns a.stamps.keys.now a.stamps.times.now a.values.now marks in
+    own a.s c.requires.0 a.k (versions_of a.stamps.used cs) _ c.in-Some.ensures.value _ _ refl _ c.effect-e.ensures (c.applied_at.ensures marks)
 
 pub returns-in-None : goal.returns-in-None
 returns-in-None c marks =
     let a = c.args in
-    let cs = columns a.keys.now a.times.now a.values.now marks in
-    seen a.s c.requires.0 a.k (versions_of a.used cs) _ c.in-None.ensures.value _ refl (c.value_at.ensures marks)
+    let cs = columns a.stamps.keys.now a.stamps.times.now a.values.now marks in
+    seen a.s c.requires.0 a.k (versions_of a.stamps.used cs) _ c.in-None.ensures.value _ refl (c.value_at.ensures marks)

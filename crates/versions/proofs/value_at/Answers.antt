@@ -1,6 +1,6 @@
 -- `versions::value_at` meets its contract: the row found is a used one, and the value that stands there is the newest version's.
-use Rattle.std.proofs.Common.{◌≡◌, ℕ, [], refl, ◌<◌, sym, ◌∙◌, arith, rules, Option, Some, None}
-use Rattle.versions.specs.Versions.{Columns, columns, versions_of}
+use Rattle.std.proofs.Common.{◌≡◌, [], refl, ◌<◌, sym, ◌∙◌, arith, rules, Some, None}
+use Rattle.versions.specs.Versions.{columns}
 use Rattle.versions.specs.Laws.{found_version, found_newest, none_found}
 use Rattle.versions.proofs.value_at.Goals as goal
 use Rattle.versions.proofs.value_at.Goals.{In_ok-i}

@@ -1,4 +1,4 @@
--- `map_checkpoint::keep::clear` meets its contract. The loop's invariant: the rows from `from` up to i are zero. The measure is how many rows are left.
+-- `map_checkpoint::keep::clear` meets its contract. The loop's invariant: the rows from `from` up to i are zero.
 use mathlib.Core.Path.{◌≡◌}
 use mathlib.Core.List.{List}
 use Prim.Native.Nat.{ℕ, ◌+◌, ◌≤◌}
@@ -25,8 +25,6 @@ loop-i-preserved c =
     let l = c.loop-i in
     let a = c.args in
     let cs = columns a.keys.now a.times.now a.values.now a.marks.now in (
-      omega arith,
-      omega arith,
-      long_set l.invariant.2 l.i (λ cells. 0),
-      more cs a.from l.i l.invariant.0 (lent_fewer c.requires.0 (omega arith)) l.invariant.3,
+      long_set l.invariant.0 l.i (λ cells. 0),
+      more cs a.from l.i (omega arith) (lent_fewer c.requires.0 (omega arith)) l.invariant.1,
     )

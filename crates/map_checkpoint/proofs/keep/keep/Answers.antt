@@ -39,9 +39,10 @@ module _ (picks : List Bool) (cs : Columns) (T n : ℕ) (h : (i : ℕ) → i < n
       }
 
 pub clear-requires : goal.clear-requires
-clear-requires c =
+clear-requires g c =
     let a = c.args in
     let cs = columns a.keys.now a.times.now a.values.now a.marks.now in
+    let w = c.new-stamps.ensures in
     let p = c.requires.0 in (
       lent_long p
           (record {
@@ -50,11 +51,12 @@ clear-requires c =
             values = c.move_up-kept.auto.values;
             marks = c.move_up-kept.auto.marks;
           }),
-      few _ cs a.t a.used (c.pick_kept.ensures cs) c.move_up-kept.ensures,
+      few _ cs a.t a.used (rw (w.0, w.1, w.2) at (c.pick_kept.ensures cs)) c.move_up-kept.ensures,
     )
 
 pub returns : goal.returns
-returns c =
+returns g c =
     let a = c.args in
     let cs = columns a.keys.now a.times.now a.values.now a.marks.now in
-    settles _ cs a.t a.used (c.pick_kept.ensures cs) c.move_up-kept.ensures c.requires.0 c.clear.ensures
+    let w = c.new-stamps.ensures in
+    settles _ cs a.t a.used (rw (w.0, w.1, w.2) at (c.pick_kept.ensures cs)) c.move_up-kept.ensures c.requires.0 c.clear.ensures

@@ -1,5 +1,5 @@
 -- `map_checkpoint::keep::move_up` meets its contract. The loop's invariant: the picked versions of the first i rows stand in the first rows,
--- and the rows behind them are as they were. The measure is how many rows are left.
+-- and the rows behind them are as they were.
 use mathlib.Core.Path.{◌≡◌, refl, ap, sym, ◌∙◌}
 use mathlib.Core.Bool.{Bool, true, false}
 use mathlib.Core.List.{List, ◌∷◌}
@@ -54,15 +54,13 @@ loop-i-preserved c =
     elim c.if-picks-i.branch [
       | then-picks-i w ↦ (
         omega arith,
-        omega arith,
-        rw (w.keys-is, w.times-is, w.values-is, w.marks-is) (long_set l.invariant.2 l.kept (λ cells. get_or cells l.i 0)),
-        moves a.picks.now cs l.i l.invariant.3 w.if-picks-i.true l.invariant.0 (lent_fewer c.requires.0 (omega arith))
+        rw (w.keys-is, w.times-is, w.values-is, w.marks-is) (long_set l.invariant.1 l.kept (λ cells. get_or cells l.i 0)),
+        moves a.picks.now cs l.i l.invariant.2 w.if-picks-i.true l.invariant.0 (lent_fewer c.requires.0 (omega arith))
             (columns_same w.keys-is w.times-is w.values-is w.marks-is) w.kept-is,
       )
       | else-picks-i w ↦ (
         omega arith,
-        omega arith,
-        rw (w.keys-is, w.times-is, w.values-is, w.marks-is) l.invariant.2,
-        passes a.picks.now cs l.i l.invariant.3 w.if-picks-i.false (columns_same w.keys-is w.times-is w.values-is w.marks-is) w.kept-is,
+        rw (w.keys-is, w.times-is, w.values-is, w.marks-is) l.invariant.1,
+        passes a.picks.now cs l.i l.invariant.2 w.if-picks-i.false (columns_same w.keys-is w.times-is w.values-is w.marks-is) w.kept-is,
       )
     ]

@@ -1,6 +1,6 @@
 -- `map_checkpoint::keep::move_up` meets its contract. The loop's invariant: the picked versions of the first i rows stand in the first rows,
--- and the rows behind them are as they were. The measure is how many rows are left.
-use Prim.Native.Nat.{◌-◌, ◌≤◌}
+-- and the rows behind them are as they were.
+use Prim.Native.Nat.{◌≤◌}
 use Rattle.versions.specs.Versions.{columns, versions_of}
 use Rattle.versions.specs.Columns.{Long, picked, Moved}
 use Rattle.map_checkpoint.proofs.keep.move_up.Given as goal
@@ -9,7 +9,4 @@ abbrev pub invariant-loop-i : goal.invariant-loop-i
 invariant-loop-i l =
     let cs = columns l.initial.keys l.initial.times l.initial.values l.initial.marks in
     let cs' = columns l.keys l.times l.values l.marks in
-    (l.kept ≤ l.i) × (l.i ≤ l.used) × Long cs cs' × Moved (picked l.picks (versions_of l.i cs)) cs cs' l.kept
-
-abbrev pub decreases-loop-i : goal.decreases-loop-i
-decreases-loop-i l = l.used - l.i
+    (l.kept ≤ l.i) × Long cs cs' × Moved (picked l.picks (versions_of l.i cs)) cs cs' l.kept

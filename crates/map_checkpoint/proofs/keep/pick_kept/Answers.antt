@@ -33,11 +33,11 @@ pub pick_named-requires : goal.pick_named-requires
 pick_named-requires c =
     let a = c.args in (
       (next_within _ _ _ _ _ _ c.newest_rows-n.ensures).in_values,
-      λ x h. omega (arith, named a.keys.now a.times.now a.t a.used c.newest_rows-n.ensures x h),
+      λ x h. omega (arith, named a.stamps.keys.now a.stamps.times.now a.t a.stamps.used c.newest_rows-n.ensures x h),
     )
 
 pub returns : goal.returns
 returns c others i h =
     let a = c.args in
-    picked a.keys.now a.times.now others a.t a.used c.newest_rows-n.ensures i _ _ _ (c.pick_late.ensures i h) (c.pick_named.ensures i)
+    picked a.stamps.keys.now a.stamps.times.now others a.t a.stamps.used c.newest_rows-n.ensures i _ _ _ (c.pick_late.ensures i h) (c.pick_named.ensures i)
     (c.pick_zero.ensures others i)

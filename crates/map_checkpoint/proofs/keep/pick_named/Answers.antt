@@ -1,5 +1,5 @@
 -- `map_checkpoint::keep::pick_named` meets its contract. The loop's invariant: a row is picked, or named by a cell that is left, exactly if it is to be
--- picked at the end. The measure is how many cells are left.
+-- picked at the end.
 use mathlib.Core.Path.{◌≡◌, sym, ◌∙◌}
 use mathlib.Core.Bool.{Bool, true, false}
 use mathlib.Core.List.{List, ◌∷◌}
@@ -35,12 +35,7 @@ module _ (places : List ℕ) (n x : ℕ) (picks : List Bool) (l : x < n) (h : n 
       rw (cell, e, add-one, get_or-set_other picks (get_or places x 0) i true false (λ q. ne (sym q))))
 
 pub loop-x-preserved : goal.loop-x-preserved
-loop-x-preserved c =
+loop-x-preserved c i =
     let l = c.loop-x in
-    let a = c.args in (
-      omega arith,
-      simp length-set l.invariant.1,
-      λ i.
-          more a.places.now a.n l.x l.picks (omega arith) c.requires.0 (omega (arith, c.requires.1 l.x (omega arith), l.invariant.1)) i
-          ∙ l.invariant.2 i,
-    )
+    let a = c.args in
+    more a.places.now a.n l.x l.picks (omega arith) c.requires.0 (omega (arith, c.requires.1 l.x (omega arith))) i ∙ l.invariant i

@@ -30,10 +30,10 @@ module _ (ks ts : List ℕ) (n t : ℕ) (picks : List Bool) (f : Option ℕ)
 pub bounds-picks-j : goal.bounds-picks-j
 bounds-picks-j c =
     let a = c.args in
-    omega (arith, within a.keys.now a.times.now a.used a.t a.picks.now _ c.in-Some.ensures _ refl)
+    omega (arith, within a.stamps.keys.now a.stamps.times.now a.stamps.used a.t a.picks.now _ c.in-Some.ensures _ refl)
 
 pub returns-in-Some : goal.returns-in-Some
 returns-in-Some c =
     let a = c.args in
-    let l = within a.keys.now a.times.now a.used a.t a.picks.now _ c.in-Some.ensures _ refl in
-    found a.keys.now a.times.now a.used a.t a.picks.now _ c.in-Some.ensures _ refl (omega arith)
+    let l = within a.stamps.keys.now a.stamps.times.now a.stamps.used a.t a.picks.now _ c.in-Some.ensures _ refl in
+    found a.stamps.keys.now a.stamps.times.now a.stamps.used a.t a.picks.now _ c.in-Some.ensures _ refl (omega arith)

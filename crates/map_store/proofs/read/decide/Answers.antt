@@ -29,20 +29,23 @@ current_value-requires c =
     let a = c.args in
     let cs = columns a.keys.now a.times.now a.values.now a.marks.now in
     let l = lent a.h cs c.requires in
-    (rw c.at-s.ensures (rowed_found a.h.slots a.n c.in-Some.ensures.value refl c.requires.formed), l.keys, l.times, l.values)
+    (rw c.at-s.ensures (rowed_found a.h.slots a.n c.in-Some.ensures.value refl c.requires.formed), rw c.new-stamps.ensures.2 l.values)
 
-pub returns-else-k-eq0 : goal.returns-else-k-eq0
-returns-else-k-eq0 c =
+pub returns : goal.returns
+returns c =
     let a = c.args in
     let cs = columns a.keys.now a.times.now a.values.now a.marks.now in
     let m = meaning a.h cs in
-    say_value (read_refusal a.n a.k m) _ (read_in a.n a.k m) (reads m a.n a.k c.at-s.result (place_found a.h.slots a.n c.in-Some.ensures.value refl ∙ ap taken_by (sym c.at-s.ensures)) _ (c.current_value.ensures a.marks.now))
+    let w = c.new-stamps.ensures in
+    say_value (read_refusal a.n a.k m) _ (read_in a.n a.k m)
+    (reads m a.n a.k c.at-s.result (place_found a.h.slots a.n c.in-Some.ensures.value refl ∙ ap taken_by (sym c.at-s.ensures)) _
+    (rw (w.0, w.1, w.2) at (c.current_value.ensures a.marks.now)))
     (read_done m a.n a.k _ _ _ (place_found a.h.slots a.n c.in-Some.ensures.value refl) c.if-k-eq0.false)
 
-pub returns-in-None : goal.returns-in-None
-returns-in-None c =
+pub returns-in_default : goal.returns-in_default
+returns-in_default c =
     let a = c.args in
     let cs = columns a.keys.now a.times.now a.values.now a.marks.now in
     let m = meaning a.h cs in
     say 2 (read_refusal a.n a.k m) (read_in a.n a.k m)
-    (read_unknown m a.n a.k (place_none a.h.slots a.n c.in-None.ensures.value refl))
+    (read_unknown m a.n a.k (place_none a.h.slots a.n c.in_default.ensures.value refl))

@@ -9,25 +9,24 @@ use Rattle.std.specs.Prelude.{Option, Some, None}
 use Rattle.rules.specs.Bools.{split}
 use Rattle.slot.specs.declared.Slot.{Slot}
 use Rattle.slot.specs.Slot.{key_row}
-use Rattle.slot.specs.Slots.{is_found}
+use Rattle.std.specs.Option.{is_some}
 use Rattle.slot.specs.Formed.{Rowed}
 use Rattle.slot.specs.Places.{has_key, slot_rows}
 use Rattle.slot.specs.RowLaws.{has_row, length_rows}
 use Rattle.map_store.proofs.update.is_full.Goals as goal
+use Rattle.map_store.proofs.update.is_full.Goals.{After-is_none}
 
-module _ (s : Slot) (w : Rowed s) (k : ℕ) (f : Option ℕ) (e : f ≡ key_row s k) where
-  there : {i : ℕ} → f ≡ Some i → false ≡ not (has_key k (slot_rows s) || ltb (length (slot_rows s)) 32)
-  there g = rw (has_row s w k ∙ ap is_found (sym e ∙ g))
+-- the slot has a row for k exactly if one is found
+found : (c : After-is_none) → has_key c.args.k (slot_rows c.args.s) ≡ not c.is_none.result
+found c = has_row c.args.s c.requires c.args.k ∙ ap is_some (sym c.find.ensures.value) ∙ c.is_none.ensures
 
-  not_there : f ≡ None → leb 32 s.count ≡ not (has_key k (slot_rows s) || ltb (length (slot_rows s)) 32)
-  not_there g =
-      rw (has_row s w k ∙ ap is_found (sym e ∙ g), length_rows s.keys s.values s.marks s.count)
-      (split (leb 32 s.count)
-      (λ l. rw (l, le-ltb s.count 32 (leb-true 32 s.count l)))
-      (λ l. rw (l, lt-ltb s.count 32 (leb-false 32 s.count l))))
+pub returns-then-is_none : goal.returns-then-is_none
+returns-then-is_none c =
+    let s = c.args.s in
+    rw (found (goal.at.returns-then-is_none c).After-is_none, c.if-is_none.true, length_rows s.keys s.values s.marks s.count)
+    (split (leb 32 s.count)
+    (λ l. rw (l, le-ltb s.count 32 (leb-true 32 s.count l)))
+    (λ l. rw (l, lt-ltb s.count 32 (leb-false 32 s.count l))))
 
-pub returns-in-Some : goal.returns-in-Some
-returns-in-Some c = there c.args.s c.requires c.args.k _ c.in-Some.ensures.value refl
-
-pub returns-in-None : goal.returns-in-None
-returns-in-None c = not_there c.args.s c.requires c.args.k _ c.in-None.ensures.value refl
+pub returns-else-is_none : goal.returns-else-is_none
+returns-else-is_none c = rw (found (goal.at.returns-else-is_none c).After-is_none, c.if-is_none.false)

@@ -1,5 +1,5 @@
 -- `Stamps::is_later` meets its contract: rows that are passed have no later version either.
-use Rattle.std.proofs.Common.{◌≡◌, false, ℕ, List, ◌≤◌, sym, ◌∙◌, arith, rules}
+use Rattle.std.proofs.Common.{◌≡◌, false, ℕ, List, sym, ◌∙◌, arith, rules}
 use Rattle.versions.specs.Versions.{columns, versions_of, later}
 use Rattle.versions.specs.Laws.{later_among}
 use Rattle.versions.specs.Search.{Passed}

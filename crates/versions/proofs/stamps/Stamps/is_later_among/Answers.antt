@@ -1,11 +1,11 @@
 -- `Stamps::is_later_among` meets its contract. The loop's invariant: no version of the first i rows is one of k later than s that meets
 -- the transaction. The measure is how many rows are left.
 use mathlib.Core.Path.{◌≡◌, sym, ◌∙◌}
-use mathlib.Core.Bool.{Bool, true, false, not, ◌&&◌}
-use Prim.Native.Nat.{ℕ, ◌+◌, ◌≤◌, ◌<◌}
+use mathlib.Core.Bool.{Bool, true, not, ◌&&◌}
+use Prim.Native.Nat.{ℕ, ◌+◌, ◌<◌}
 use native.Mathlib.Numerals.{add-one}
 use native.Mathlib.Omega.{arith}
-use borrow.Author.Tests.{eq-eqb, ne_eqb, lt-ltb, le-ltb}
+use borrow.Author.Tests.{eq-eqb, lt-ltb}
 use lib.ListN.{get_or}
 use Rattle.versions.specs.Versions.{Columns, columns, version_at, versions_of, is_marked, later}
 use Rattle.versions.specs.Laws.{later_among}

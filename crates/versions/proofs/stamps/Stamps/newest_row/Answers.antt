@@ -1,5 +1,5 @@
 -- `Stamps::newest_row` meets its contract: rows that are passed leave the best row.
-use Rattle.std.proofs.Common.{◌≡◌, ℕ, List, ◌≤◌, Option, sym, ap, ◌∙◌, arith, rules}
+use Rattle.std.proofs.Common.{◌≡◌, sym, ap, ◌∙◌, arith, rules}
 use Rattle.versions.specs.Versions.{Columns, keyed, versions_of, newest, row_of}
 use Rattle.versions.specs.Search.{Passed}
 use Rattle.versions.specs.SearchLaws.{newest_passed, passed_none, passed_more}
