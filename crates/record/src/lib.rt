@@ -82,9 +82,8 @@ fn four(bytes: &[u8], at: usize) -> u64
     requires { at + 4 ≤ length bytes.now }
     ensures { Field bytes.now at Width.Four result }
 {
-    let two = bytes[at + 3] as u64 * BYTE + bytes[at + 2] as u64;
-    let three = two * BYTE + bytes[at + 1] as u64;
-    three * BYTE + bytes[at] as u64
+    let spelt = [bytes[at], bytes[at + 1], bytes[at + 2], bytes[at + 3]];
+    u64::from(u32::from_le_bytes(spelt))
 }
 
 // A number of a record: four bytes as they stand, eight as two fours.
@@ -120,14 +119,10 @@ pub fn read(journal: &[u8], place: usize) -> Record
 
 // The lowest bytes of a number, as many as the width, the lowest first.
 fn put(bytes: &mut [u8], at: usize, width: usize, v: u64)
-    requires { at + width ≤ length bytes.old }
+    requires { (at + width ≤ length bytes.old) × (width ≤ 8) }
     ensures { bytes.new ≡ written bytes.old at width v }
 {
-    let mut rest = v;
-    for i in 0..width {
-        bytes[at + i] = (rest % BYTE) as u8;
-        rest /= BYTE;
-    }
+    bytes[at..at + width].copy_from_slice(&v.to_le_bytes()[..width]);
 }
 
 // A record at the front of what is unused; it knows nothing of places.

@@ -1,25 +1,28 @@
--- `record::put` meets its contract. The loop's invariant: what is written up to i, with what is left of the number still to write, is what
--- the contract says. Assumes nothing.
-use mathlib.Core.Path.{◌≡◌, ◌∙◌}
-use mathlib.Core.List.{List, append_assoc}
-use Prim.Native.Nat.{ℕ, suc, ◌≤◌, ◌<◌, ◌-◌, ◌+◌, ◌/◌, ◌%◌}
-use native.Mathlib.Omega.{arith}
-use lib.ListN.{length, set}
-use lib.Seq.{take-suc-set, drop-set-lt}
-use Rattle.record.proofs.put.Invariants.{whole}
+-- `record::put` meets its contract: the library's bytes of a number, from byte i on, are those of the number without its i lowest bytes.
+-- Assumes nothing.
+use Rattle.std.proofs.Common.{◌≡◌, refl, ap, ◌∙◌, List, ◌∷◌, ◌++◌, ℕ, zero, suc, ◌+◌, ◌-◌, ◌/◌, ◌%◌, ◌^◌, ◌≤◌, take, drop-drop, arith, pow-suc}
+use Rattle.std.specs.Int.{bytes_low_first}
+use Rattle.std.proofs.Math.Nat.{div-div-eq-div-mul, div-one}
+use Rattle.record.specs.Bytes.{le_bytes}
 use Rattle.record.proofs.put.Goals as goal
 
-turn : (b : List ℕ) (at width rest i : ℕ) → i < width → at + width ≤ length b
-    → whole (set b (at + i) (rest % 256)) at width (rest / 256) (i + 1) ≡ whole b at width rest i
-turn b at width rest i l f =
-    let w : width - i ≡ suc (width - (i + 1)) = omega arith in
-    let s : at + (i + 1) ≡ suc (at + i) = omega arith in
-    let h : at + i < length b = omega arith in
-    let k : at + i < at + width = omega arith in
-    rw (w, s, take-suc-set b (at + i) (rest % 256) h, drop-set-lt (at + width) b (at + i) (rest % 256) k, append_assoc)
+spelt : (i k v : ℕ) → bytes_low_first i k v ≡ le_bytes k (v / 256 ^ i)
+spelt i zero v = refl
+spelt zero (suc k) v = rw (spelt 1 k v, div-one v) refl
+spelt (suc i) (suc k) v =
+    let next : v / 256 ^ suc i / 256 ≡ v / 256 ^ suc (suc i) = rw (pow-suc 256 (suc i)) (div-div-eq-div-mul v (256 ^ suc i) 256) in
+    rw (next, spelt (suc (suc i)) k v) refl
 
-pub loop-i-preserved : goal.loop-i-preserved
-loop-i-preserved c =
-    let l = c.loop-i in
+lowest : (k n v : ℕ) → k ≤ n → take k (le_bytes n v) ≡ le_bytes k v
+lowest zero n v l = refl
+lowest (suc k) (suc n) v l = ap (λ (bs : List ℕ). v % 256 ∷ bs) (lowest k n (v / 256) (omega arith))
+lowest (suc k) zero v l = absurd (omega arith)
+
+pub returns : goal.returns
+returns c =
     let a = c.args in
-    turn l.bytes a.at a.width l.rest l.i (omega arith) (omega arith) ∙ l.invariant
+    let w : a.at + a.width - a.at ≡ a.width = omega arith in
+    let whole : c.to_le_bytes.result ≡ le_bytes 8 a.v = c.to_le_bytes.ensures ∙ rw (spelt 0 8 a.v, div-one a.v) refl in
+    let part : c.copy_from_slice.new.self ≡ le_bytes a.width a.v =
+        c.copy_from_slice.ensures.after ∙ ap (take a.width) whole ∙ lowest a.width 8 a.v c.requires.1 in
+    rw (w, part) (ap (λ (bs : List ℕ). take a.at a.bytes.now ++ (le_bytes a.width a.v ++ bs)) (drop-drop a.width a.at a.bytes.now))
