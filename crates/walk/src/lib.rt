@@ -1,23 +1,24 @@
 // Section 5: recovery's walk. Each record must be one that an accepted call would write at its place.
 #![tactic(auto)]
 
-ghost use Rattle.std.specs.Prelude.{◌≡◌, true, ◌*◌, ◌<◌, ◌≤◌, length};
+ghost use Rattle.std.specs.Prelude.{◌≡◌, true, ◌<◌, ◌≤◌};
 ghost use Rattle.rules.specs.Limits.{most_records, most_running};
-ghost use Rattle.rules.specs.Kinds.{record_size, is_begin, is_commit};
+ghost use Rattle.rules.specs.Kinds.{is_begin, is_commit};
 ghost use Rattle.rules.specs.Transactions.{runs};
 ghost use Rattle.rules.specs.Recovery.{formed as formed_in, limited as limited_in, clear as clear_in, judge as judge_in, walk as walk_in};
-ghost use Rattle.record.specs.Bytes.{records_in};
+ghost use Rattle.record.specs.Records.{records_of};
 ghost use Rattle.journal.specs.Past.{Past};
 ghost use Rattle.walk.specs.Walk.{started, pushed, numbered_by, timely_by, is_blank, Without, Open, Tracks, Stepped, SnapshotOf};
 
 use journal::Journal;
+use record::Records;
 use rules::Record;
 
 // The highest number that a transaction has.
 const LAST_NUMBER: u32 = Journal::NO_NUMBER - 1;
 
 // What the records passed say: last, one more than the highest number begun, and the running transactions with their snapshots, the latest begun at
-// the end.
+// the end. These stand in two columns, which `column` searches: eight pairs would want a search and laws of their own, which is no plainer.
 #[derive(Clone, Copy)]
 struct State {
     last: u64,
@@ -58,16 +59,11 @@ impl State {
         requires { self.count ≤ most_running }
         ensures { Without self n self.count result }
     {
-        let mut rest = State::start(self.last);
-        rest.above = self.above;
-        let mut i = 0;
-        while i < self.count {
-            let m = self.numbers[i];
-            let s = self.snapshots[i];
-            if m != n {
-                rest = rest.push(m, s);
+        let mut rest = State { count: 0, ..self };
+        for i in 0..self.count {
+            if self.numbers[i] != n {
+                rest = rest.push(self.numbers[i], self.snapshots[i]);
             }
-            i += 1;
         }
         rest
     }
@@ -77,20 +73,18 @@ impl State {
         requires { (self.count ≤ most_running) × (is_begin r ≡ true → self.count < most_running) }
         ensures { Stepped self r result }
     {
-        if r.kind == Record::BEGIN {
-            let mut next = self.push(r.transaction, r.time);
-            next.above = r.transaction as u64 + 1;
-            return next;
+        match r.kind {
+            Record::BEGIN => State {
+                above: r.transaction as u64 + 1,
+                ..self.push(r.transaction, r.time)
+            },
+            Record::COMMIT => State {
+                last: r.time,
+                ..self.without(r.transaction)
+            },
+            Record::ABORT => self.without(r.transaction),
+            _ => self,
         }
-        if r.kind == Record::COMMIT {
-            let mut next = self.without(r.transaction);
-            next.last = r.time;
-            return next;
-        }
-        if r.kind == Record::ABORT {
-            return self.without(r.transaction);
-        }
-        self
     }
 
     // The snapshot of a running transaction.
@@ -98,11 +92,8 @@ impl State {
         requires { self.count ≤ most_running }
         ensures { SnapshotOf self n result }
     {
-        let numbers = self.numbers;
-        let snapshots = self.snapshots;
-        let count = self.count;
-        match column::find(&numbers, count, n) {
-            Some(j) => snapshots[j],
+        match column::find(&self.numbers, self.count, n) {
+            Some(j) => self.snapshots[j],
             None => 0,
         }
     }
@@ -112,30 +103,20 @@ impl State {
         ensures { result ≡ numbered_by self r }
     {
         if r.kind == Record::BEGIN {
-            if (r.transaction as u64) < self.above {
-                return false;
-            }
-            return r.transaction <= LAST_NUMBER;
+            return self.above <= r.transaction as u64 && r.transaction <= LAST_NUMBER;
         }
-        let numbers = self.numbers;
-        let count = self.count;
-        column::is_in(&numbers, count, r.transaction)
+        column::is_in(&self.numbers, self.count, r.transaction)
     }
 
     // Whether a snapshot lies from low to last, or a commit is later than last.
     fn timely(self, low: u64, r: Record) -> bool
         ensures { result ≡ timely_by low self r }
     {
-        if r.kind == Record::BEGIN {
-            if r.time < low {
-                return false;
-            }
-            return r.time <= self.last;
+        match r.kind {
+            Record::BEGIN => low <= r.time && r.time <= self.last,
+            Record::COMMIT => self.last < r.time,
+            _ => true,
         }
-        if r.kind == Record::COMMIT {
-            return self.last < r.time;
-        }
-        true
     }
 }
 
@@ -143,70 +124,49 @@ impl State {
 fn is_blank(r: Record) -> bool
     ensures { result ≡ is_blank r }
 {
-    if r.key != 0 {
-        return false;
-    }
-    r.value == 0
+    r.key == 0 && r.value == 0
 }
 
 // Whether a record is of a kind of section 4, its unused fields zero, and no update of key 0.
 fn formed(r: Record) -> bool
     ensures { result ≡ formed_in r }
 {
-    if r.zeros != 0 {
-        return false;
-    }
-    if r.kind == Record::BEGIN {
-        return is_blank(r);
-    }
-    if r.kind == Record::COMMIT {
-        return is_blank(r);
-    }
-    if r.is_update() {
-        if r.key == 0 {
-            return false;
+    r.zeros == 0
+        && match r.kind {
+            Record::BEGIN | Record::COMMIT => is_blank(r),
+            Record::ASSIGN | Record::ADD => r.key != 0 && r.time == 0,
+            Record::ABORT => is_blank(r) && r.time == 0,
+            _ => false,
         }
-        return r.time == 0;
-    }
-    if r.kind != Record::ABORT {
-        return false;
-    }
-    if is_blank(r) {
-        return r.time == 0;
-    }
-    false
 }
 
 // Whether at most 8 transactions run, and at most 32 keys are written in each.
-fn limited(journal: &[u8], i: usize, r: Record, s: State) -> bool
-    requires { (i ≤ most_records) × (i * record_size ≤ length journal.now) × Open (records_in i journal.now) s }
-    ensures { result ≡ limited_in (records_in i journal.now) r }
+fn limited(past: Records<'_>, r: Record, s: State) -> bool
+    requires { (past.used ≤ most_records) × Open (records_of past) s }
+    ensures { result ≡ limited_in (records_of past.entry) r }
 {
     if r.kind == Record::BEGIN {
         return s.count < Journal::RUNNING;
     }
-    if r.is_update() {
-        return conflict::may_write(journal, i, r.transaction, r.key);
-    }
-    true
+    !r.is_update() || conflict::may_write(past, r.transaction, r.key)
 }
 
 // Whether a commit does not conflict.
-fn clear(journal: &[u8], i: usize, r: Record, s: State) -> bool
-    requires { (i ≤ most_records) × (i * record_size ≤ length journal.now) × Open (records_in i journal.now) s × Past s.last (records_in i journal.now) × (is_commit r ≡ true → runs r.transaction (records_in i journal.now) ≡ true) }
-    ensures { result ≡ clear_in (records_in i journal.now) r }
+fn clear(past: Records<'_>, r: Record, s: State) -> bool
+    requires { (past.used ≤ most_records) × Open (records_of past) s × Past s.last (records_of past) × (is_commit r ≡ true → runs r.transaction (records_of past) ≡ true) }
+    ensures { result ≡ clear_in (records_of past.entry) r }
 {
     if r.kind != Record::COMMIT {
         return true;
     }
     let snapshot = s.snapshot(r.transaction);
-    !conflict::conflict(journal, i, r.transaction, snapshot, s.last)
+    !conflict::conflict(past, r.transaction, snapshot, s.last)
 }
 
-// Whether an accepted call would write a record behind the first i.
-fn judge(journal: &[u8], i: usize, low: u64, r: Record, s: State) -> bool
-    requires { (i ≤ most_records) × (i * record_size ≤ length journal.now) × Tracks low (records_in i journal.now) s }
-    ensures { result ≡ judge_in low (records_in i journal.now) r }
+// Whether an accepted call would write a record behind those passed.
+fn judge(past: Records<'_>, low: u64, r: Record, s: State) -> bool
+    requires { (past.used ≤ most_records) × Tracks low (records_of past) s }
+    ensures { result ≡ judge_in low (records_of past.entry) r }
 {
     if !formed(r) {
         return false;
@@ -217,26 +177,21 @@ fn judge(journal: &[u8], i: usize, low: u64, r: Record, s: State) -> bool
     if !s.timely(low, r) {
         return false;
     }
-    if !limited(journal, i, r, s) {
-        return false;
-    }
-    clear(journal, i, r, s)
+    limited(past, r, s) && clear(past, r, s)
 }
 
 // The place of the first record that fails, counted from 0, if there is one.
-pub fn walk(journal: &[u8], used: usize, low: u64) -> Option<usize>
-    requires { (used ≤ most_records) × (used * record_size ≤ length journal.now) }
-    ensures { result ≡ walk_in low (records_in used journal.now) }
+pub fn walk(records: Records<'_>, low: u64) -> Option<usize>
+    requires { records.used ≤ most_records }
+    ensures { result ≡ walk_in low (records_of records.entry) }
 {
     let mut s = State::start(low);
-    let mut i = 0;
-    while i < used {
-        let r = record::read(journal, i);
-        if !judge(journal, i, low, r, s) {
+    for i in 0..records.used {
+        let r = records.at(i);
+        if !judge(records.first(i), low, r, s) {
             return Some(i);
         }
         s = s.step(r);
-        i += 1;
     }
     None
 }

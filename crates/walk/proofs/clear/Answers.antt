@@ -9,7 +9,7 @@ use Rattle.rules.specs.Kinds.{is_commit}
 use Rattle.rules.specs.Transactions.{runs, snapshot}
 use Rattle.rules.specs.Conflicts.{conflict}
 use Rattle.rules.specs.Recovery.{clear}
-use Rattle.record.specs.Bytes.{records_in}
+use Rattle.record.specs.Records.{records_of}
 use Rattle.walk.specs.declared.State.{State}
 use Rattle.walk.specs.Walk.{Open, SnapshotOf}
 use Rattle.walk.specs.Laws.{rows_run}
@@ -26,4 +26,4 @@ commits rs r s v b o h k q e =
 pub returns : goal.returns
 returns c =
     let a = c.args in
-    commits (records_in a.i a.journal.now) a.r a.s _ _ c.requires.2 c.requires.4 c.if-r-ne-COMMIT.false c.snapshot-snapshot.ensures c.conflict.ensures
+    commits (records_of a.past) a.r a.s _ _ c.requires.1 c.requires.3 c.if-r-ne-COMMIT.false c.snapshot-snapshot.ensures c.conflict.ensures

@@ -5,7 +5,7 @@ use mathlib.Core.List.{List}
 use Prim.Native.Nat.{ℕ}
 use Rattle.rules.specs.declared.Record.{Record}
 use Rattle.rules.specs.Recovery.{formed, limited, clear, judge}
-use Rattle.record.specs.Bytes.{records_in}
+use Rattle.record.specs.Records.{records_of}
 use Rattle.walk.specs.declared.State.{State}
 use Rattle.walk.specs.Walk.{Tracks, numbered_by, timely_by}
 use Rattle.walk.specs.Laws.{numbered_by_lem, timely_by_lem, past_by, commit_runs}
@@ -25,22 +25,21 @@ module _ (low : ℕ) (rs : List Record) (r : Record) (s : State) (h : Tracks low
 pub returns-then-not-numbered : goal.returns-then-not-numbered
 returns-then-not-numbered c =
     let a = c.args in
-    misnumbered a.low (records_in a.i a.journal.now) a.r a.s c.requires.2 _ c.formed.ensures c.if-not-formed.false _
+    misnumbered a.low (records_of a.past) a.r a.s c.requires.1 _ c.formed.ensures c.if-not-formed.false _
     c.numbered.ensures c.if-not-numbered.true
 
 pub clear-requires : goal.clear-requires
 clear-requires c =
     let a = c.args in (
       c.requires.0,
-      c.requires.1,
-      c.requires.2.opened,
-      past_by a.low (records_in a.i a.journal.now) a.r a.s c.requires.2,
-      commit_runs a.low (records_in a.i a.journal.now) a.r a.s c.requires.2 (sym c.numbered.ensures ∙ c.if-not-numbered.false),
+      c.requires.1.opened,
+      past_by a.low (records_of a.past) a.r a.s c.requires.1,
+      commit_runs a.low (records_of a.past) a.r a.s c.requires.1 (sym c.numbered.ensures ∙ c.if-not-numbered.false),
     )
 
-pub returns : goal.returns
-returns c =
+pub returns-then-limited : goal.returns-then-limited
+returns-then-limited c =
     let a = c.args in
-    cleared a.low (records_in a.i a.journal.now) a.r a.s c.requires.2 _ c.formed.ensures c.if-not-formed.false _
+    cleared a.low (records_of a.past) a.r a.s c.requires.1 _ c.formed.ensures c.if-not-formed.false _
     c.numbered.ensures c.if-not-numbered.false _ c.timely.ensures c.if-not-timely.false _ c.limited.ensures
-    c.if-not-limited.false _ c.clear.ensures
+    c.if-limited.true _ c.clear.ensures

@@ -5,7 +5,7 @@ use Prim.Native.Nat.{ℕ}
 use lib.Dec.{ltb}
 use Rattle.rules.specs.declared.Record.{Record}
 use Rattle.rules.specs.Recovery.{limited}
-use Rattle.record.specs.Bytes.{records_in}
+use Rattle.record.specs.Records.{records_of}
 use Rattle.walk.specs.declared.State.{State}
 use Rattle.walk.specs.Walk.{Open}
 use Rattle.walk.specs.Laws.{rows_count}
@@ -18,4 +18,4 @@ module _ (rs : List Record) (r : Record) where
 pub returns-then-r-eq-BEGIN : goal.returns-then-r-eq-BEGIN
 returns-then-r-eq-BEGIN c =
     let a = c.args in
-    begins (records_in a.i a.journal.now) a.r a.s c.requires.2 c.if-r-eq-BEGIN.true
+    begins (records_of a.past) a.r a.s c.requires.1 c.if-r-eq-BEGIN.true

@@ -9,7 +9,7 @@ use Rattle.std.specs.Prelude.{Option, Some, None}
 use Rattle.column.specs.Column.{first_row}
 use Rattle.column.specs.Laws.{First, first_at}
 use Rattle.walk.specs.declared.State.{State}
-use Rattle.column.specs.Among.{is_found}
+use Rattle.std.specs.Option.{is_some}
 use Rattle.column.specs.AmongLaws.{found_among}
 use Rattle.walk.specs.Walk.{SnapshotOf}
 use native.Mathlib.Omega.{arith}
@@ -28,15 +28,15 @@ module _ (s : State) (n : ℕ) (f : Option ℕ) (e : f ≡ first_row n (take s.c
 
   nowhere : f ≡ None → SnapshotOf s n 0
   nowhere d snap h a =
-      not_both (among n (take s.count s.numbers)) a (sym (found_among 0 n (take s.count s.numbers)) ∙ ap is_found (sym e ∙ d))
+      not_both (among n (take s.count s.numbers)) a (sym (found_among 0 n (take s.count s.numbers)) ∙ ap is_some (sym e ∙ d))
 
-pub offset_bounds-snapshots-j : goal.offset_bounds-snapshots-j
-offset_bounds-snapshots-j c =
+pub offset_bounds-self-j : goal.offset_bounds-self-j
+offset_bounds-self-j c =
     let a = c.args in
     omega (arith, used a.self a.n _ c.find.ensures _ c.in-Some.is)
 
-pub bounds-snapshots-j : goal.bounds-snapshots-j
-bounds-snapshots-j c =
+pub bounds-self-j : goal.bounds-self-j
+bounds-self-j c =
     let a = c.args in
     omega (arith, used a.self a.n _ c.find.ensures _ c.in-Some.is)
 

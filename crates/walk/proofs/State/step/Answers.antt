@@ -5,6 +5,7 @@ use Rattle.rules.specs.declared.Record.{Record}
 use Rattle.walk.specs.declared.State.{State}
 use Rattle.walk.specs.Walk.{pushed, Without, Stepped}
 use Rattle.walk.specs.Laws.{begins, commits, aborts, others}
+use native.Mathlib.Omega.{arith}
 use Rattle.walk.proofs.State.step.Goals as goal
 
 module _ (s : State) (r : Record) where
@@ -23,22 +24,22 @@ module _ (s : State) (r : Record) where
   unchanged : (r.kind ≡ 1 → ⊥) → (r.kind ≡ 4 → ⊥) → (r.kind ≡ 5 → ⊥) → Stepped s r s
   unchanged x y z low rs h j = others low rs r s h j x y z
 
-pub returns-then-r-eq-BEGIN : goal.returns-then-r-eq-BEGIN
-returns-then-r-eq-BEGIN c =
+pub returns-in-1 : goal.returns-in-1
+returns-in-1 c =
     let a = c.args in
-    begun a.self a.r c.push-next.result c.push-next.ensures c.if-r-eq-BEGIN.true
+    begun a.self a.r c.push.result c.push.ensures c.in-1.is
 
-pub returns-then-r-eq-COMMIT : goal.returns-then-r-eq-COMMIT
-returns-then-r-eq-COMMIT c =
+pub returns-in-4 : goal.returns-in-4
+returns-in-4 c =
     let a = c.args in
-    committed a.self a.r c.without-next.result c.without-next.ensures c.if-r-eq-COMMIT.true
+    committed a.self a.r c.without.result c.without.ensures c.in-4.is
 
-pub returns-then-r-eq-ABORT : goal.returns-then-r-eq-ABORT
-returns-then-r-eq-ABORT c =
+pub returns-in-5 : goal.returns-in-5
+returns-in-5 c =
     let a = c.args in
-    aborted a.self a.r c.without.result c.without.ensures c.if-r-eq-ABORT.true
+    aborted a.self a.r c.without-in-5.result c.without-in-5.ensures c.in-5.is
 
-pub returns : goal.returns
-returns c =
+pub returns-in_default : goal.returns-in_default
+returns-in_default c =
     let a = c.args in
-    unchanged a.self a.r c.if-r-eq-BEGIN.false c.if-r-eq-COMMIT.false c.if-r-eq-ABORT.false
+    unchanged a.self a.r (λ e. omega (arith, e)) (λ e. omega (arith, e)) (λ e. omega (arith, e))

@@ -12,7 +12,7 @@ use Rattle.walk.specs.Walk.{pushed, latest, Without}
 use Rattle.walk.specs.Laws.{push_room, push_rows, push_held}
 use native.Mathlib.Omega.{arith}
 use Rattle.walk.proofs.State.without.Goals as goal
-use Rattle.walk.proofs.State.without.Goals.{then-m-n, else-m-n}
+use Rattle.walk.proofs.State.without.Goals.{then-self-i, else-self-i}
 
 module _ (s rest v : State) (n i : ℕ) (w : Without s n i rest) (l : i < 8) where
   stays : (get_or s.numbers i 0 ≡ n → ⊥) → v ≡ pushed rest (get_or s.numbers i 0) (get_or s.snapshots i 0) → Without s n (i + 1) v
@@ -53,10 +53,8 @@ pub loop-i-preserved : goal.loop-i-preserved
 loop-i-preserved c =
     let l = c.loop-i in
     let a = c.args in
-    let k : l.i < 8 = omega arith in (
-      omega arith,
-      elim c.if-m-n.branch [
-        | then-m-n w ↦ stays a.self l.rest _ a.n l.i l.invariant.1 k w.if-m-n.true (w.rest-is ∙ w.push-rest.ensures)
-        | else-m-n w ↦ goes a.self l.rest _ a.n l.i l.invariant.1 k w.if-m-n.false w.rest-is
-      ],
-    )
+    let k : l.i < 8 = omega arith in
+    elim c.if-self-i.branch [
+      | then-self-i w ↦ stays a.self l.rest _ a.n l.i l.invariant k w.if-self-i.true (w.rest-is ∙ w.push-rest.ensures)
+      | else-self-i w ↦ goes a.self l.rest _ a.n l.i l.invariant k w.if-self-i.false w.rest-is
+    ]
