@@ -33,6 +33,7 @@ fn decide(store: Store<'_>, t: u64) -> Result<(), Refusal>
 }
 
 // The list at t, made aside in two columns of N cells, since it is read from the base; where it fits it becomes the base. How many rows it has.
+// Head and columns come apart, since a `Store` only lends the base to be read.
 fn settle_in<const N: usize>(
     h: Head,
     keys: &mut [u32],

@@ -1,5 +1,5 @@
 // The journal store: its head, and what all its calls share. Every call is lent the whole store, head, base columns and journal bytes, and makes
-// the same shape test; it answers for all inputs and asks nothing of its caller.
+// the same shape test; it answers for all inputs and asks nothing of its caller. The calls take head, columns and bytes apart, not a `Store`, since C lends them so.
 #![tactic(auto)]
 
 ghost use Rattle.std.specs.Prelude.{◌≡◌, ◌+◌, ◌≤◌, length};
