@@ -24,5 +24,5 @@ returns c =
     let w : a.at + a.width - a.at ≡ a.width = omega arith in
     let whole : c.to_le_bytes.result ≡ le_bytes 8 a.v = c.to_le_bytes.ensures ∙ rw (spelt 0 8 a.v, div-one a.v) refl in
     let part : c.copy_from_slice.new.self ≡ le_bytes a.width a.v =
-        c.copy_from_slice.ensures.after ∙ ap (take a.width) whole ∙ lowest a.width 8 a.v c.requires.1 in
+    c.copy_from_slice.ensures.after ∙ ap (take a.width) whole ∙ lowest a.width 8 a.v c.requires.1 in
     rw (w, part) (ap (λ (bs : List ℕ). take a.at a.bytes.now ++ (le_bytes a.width a.v ++ bs)) (drop-drop a.width a.at a.bytes.now))
