@@ -7,7 +7,8 @@ ghost use Rattle.answer.specs.Shown.{shown, answer_of};
 use crate::Refusal;
 use rules::Value;
 
-// The number of section 6, 0 where the call was accepted, and whether a value stands beside it: 1 and the value, or 0 and 0.
+// The number of section 6, 0 where the call was accepted, and whether a value stands beside it: 1 and the value, or 0 and 0. A flag beside a value,
+// since the C interface has no Option.
 #[repr(C)]
 #[derive(Clone, Copy)]
 pub struct Answer {

@@ -14,7 +14,8 @@ use journal::{Journal, times};
 use record::Records;
 use rules::Record;
 
-// Whether a record is an update or, where adds do not count, an assign.
+// Whether a record is an update or, where adds do not count, an assign. A flag, which the clauses name (`counting`): of a closure they would speak
+// through `F.post`, which is no plainer.
 fn counts(r: Record, adds: bool) -> bool
     ensures { result ≡ counted adds r }
 {

@@ -127,7 +127,8 @@ pub fn next(records: Records<'_>, floor: u32) -> u32
     best.min(Journal::NO_NUMBER as u64) as u32
 }
 
-// The transactions that committed later than a time, into a column in the order of these commits; how many commits there are.
+// The transactions that committed later than a time, into a column in the order of these commits; how many commits there are. The column is lent,
+// since there is no heap for a list.
 pub fn late_numbers(records: Records<'_>, s: u64, numbers: &mut [u32]) -> usize
     requires { records.used ≤ length numbers.old }
     ensures { Gathered (lates s (records_of records.entry)) records.entry.used result numbers.old numbers.new }

@@ -17,7 +17,7 @@ pub enum Effect {
 }
 
 impl Effect {
-    // The effect that a mark and an amount hold in cells.
+    // The effect that a mark and an amount hold in cells. A mark is a byte, as the C interface lends it; of a pair `From` would not say which is which.
     pub fn by(mark: u8, amount: u32) -> Self
         ensures { result ≡ effect_by mark amount }
     {
@@ -89,7 +89,8 @@ pub struct Record {
 impl Record {
     // How many bytes a record takes.
     pub const BYTES: usize = 24;
-    // The kinds of section 4.
+    // The kinds of section 4. Numbers: a damaged journal may hold any byte, which `record_at` keeps, so that an enum would need a case for the others
+    // with the byte in it, and every test would name the kinds as it does now.
     pub const BEGIN: u8 = 1;
 
     pub const ASSIGN: u8 = 2;
