@@ -13,7 +13,14 @@ use answer::{Outcome, Refusal};
 use slot::Slots;
 
 // What a store of good shape answers.
-fn decide(h: MapHead, keys: &[u32], times: &[u64], values: &[u32], marks: &[u8], t: u64) -> Result<u32, Refusal>
+fn decide(
+    h: MapHead,
+    keys: &[u32],
+    times: &[u64],
+    values: &[u32],
+    marks: &[u8],
+    t: u64,
+) -> Result<u32, Refusal>
     requires { Shaped h (lengths (columns keys.now times.now values.now marks.now)) }
     ensures { Decided (Begin t) (room_of (length keys.now)) (meaning h (columns keys.now times.now values.now marks.now)) (of_begun result) }
 {
