@@ -1,11 +1,10 @@
--- A column while versions move up in it and while its freed rows are cleared: one row more.
+-- A column while versions move up in it, one row more, and once its freed rows are cleared.
 use mathlib.Core.Path.{◌≡◌, ap, ◌∙◌}
 use mathlib.Core.List.{List, [], ◌∷◌, ◌++◌, append_assoc}
 use Prim.Native.Nat.{ℕ, suc, ◌+◌, ◌-◌, ◌≤◌, ◌<◌}
-use native.Mathlib.Numerals.{add-one}
 use native.Mathlib.Omega.{arith}
-use lib.ListN.{length, get_or, take, drop, set, replicate, length-append, length-set, length-replicate, replicate-append-replicate}
-use lib.Seq.{length-take-le, drop-cons, drop-drop, drop-append-add, get_or-append-add, get_or-drop, set_at, take_at}
+use lib.ListN.{length, get_or, drop, set, length-set}
+use lib.Seq.{drop-cons, drop-drop, drop-append-add, get_or-append-add, get_or-drop, set_at, take_at}
 use Rattle.versions.specs.declared.Version.{Version}
 use Rattle.versions.specs.Versions.{Columns}
 use Rattle.versions.specs.Columns.{Long, each, column, over, zeroed, thinned_column}
@@ -14,24 +13,6 @@ use Rattle.versions.specs.Laws.{each_long, none_lent, length_column}
 -- one cell of each column is written
 pub long_set : {cs cs' : Columns} → Long cs cs' → (i : ℕ) (x : List ℕ → ℕ) → Long cs (each (λ field cells. set cells i (x cells)) cs')
 long_set {cs} l i x = each_long (none_lent cs) (λ field cells. set cells i (x cells)) (λ field cells _. length-set cells i (x cells)) l
-
-module _ (m i : ℕ) (cells : List ℕ) where
-  -- a column with one zero more
-  pub clear_more : m ≤ i → i < length cells → set (zeroed m i cells) i 0 ≡ zeroed m (i + 1) cells
-  clear_more l h =
-      let front = take m cells ++ replicate (i - m) 0 in
-      let long : length front ≡ i = rw (length-append, length-take-le m cells (omega arith), length-replicate) (omega arith) in
-      let z : i + 1 - m ≡ i - m + 1 = omega arith in
-      rw (
-        ← append_assoc (take m cells) (replicate (i - m) 0) (drop i cells),
-        drop-cons cells i 0 h,
-        set_at front (get_or cells i 0) (drop (suc i) cells) 0 i long,
-        z,
-        ← replicate-append-replicate {A = ℕ} (i - m) 1 0,
-        add-one i,
-        append_assoc (take m cells) (replicate (i - m) 0) (0 ∷ drop (suc i) cells),
-        append_assoc (replicate (i - m) 0) (0 ∷ []) (drop (suc i) cells),
-      )
 
 -- one row more is written behind those that stand in front
 pub front_more : (front cells : List ℕ) (n x : ℕ) → length front ≡ n → n < length cells

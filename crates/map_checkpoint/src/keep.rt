@@ -39,13 +39,7 @@ fn pick_zero(stamps: Stamps<'_>, t: u64, picks: &mut [bool])
 }
 
 // Picks the rows that are kept, by the table of the newest rows, for which two columns are lent. All are decided before one moves.
-fn pick_kept(
-    stamps: Stamps<'_>,
-    t: u64,
-    listed: &mut [u32],
-    places: &mut [u32],
-    picks: &mut [bool],
-)
+fn pick_kept(stamps: Stamps<'_>, t: u64, listed: &mut [u32], places: &mut [u32], picks: &mut [bool])
     requires { (stamps.used ≤ Version.ROWS) × Spare listed.old places.old stamps.used × (stamps.used ≤ length picks.old) }
     ensures { (others : Columns) (i : ℕ) → i < stamps.entry.used → get_or picks.new i false ≡ is_kept t (versions_in stamps.entry others.values others.marks) i (version_at i (keyed stamps.entry.keys.now stamps.entry.times.now others)) }
 {
@@ -92,12 +86,10 @@ fn clear(
     requires { Spans to (columns keys.old times.old values.old marks.old) × (from ≤ to) }
     ensures { columns keys.new times.new values.new marks.new ≡ cleared from to (columns keys.old times.old values.old marks.old) }
 {
-    for i in from..to {
-        keys[i] = 0;
-        times[i] = 0;
-        values[i] = 0;
-        marks[i] = 0;
-    }
+    keys[from..to].fill(0);
+    times[from..to].fill(0);
+    values[from..to].fill(0);
+    marks[from..to].fill(0);
 }
 
 // A checkpoint at t of fewer than N versions, decided in columns of N cells aside.

@@ -1,5 +1,5 @@
-// The map store: its head, and what all its calls share. Every call is lent the whole store, head and version columns, and makes the same
-// shape test; it answers for all inputs and asks nothing of its caller.
+// The map store: its head, and what all its calls share. Every call is lent the whole store, head and version columns side by side as C lends them
+// through `registers`, and makes the same shape test; it answers for all inputs and asks nothing of its caller.
 #![tactic(auto)]
 
 ghost use Rattle.std.specs.Prelude.{◌≡◌, true, List, ℕ, ◌≤◌, length};
@@ -56,27 +56,14 @@ pub fn shaped(h: MapHead, keys: usize, times: usize, values: usize, marks: usize
     ensures value { result ≡ is_shaped h (record { keys = keys; times = times; values = values; marks = marks }) }
     ensures shaped { result ≡ true → Shaped h (record { keys = keys; times = times; values = values; marks = marks }) }
 {
-    let used = h.used;
-    if used > Version::ROWS {
-        return false;
-    }
-    if used > keys {
-        return false;
-    }
-    if keys != times {
-        return false;
-    }
-    if keys != values {
-        return false;
-    }
-    if keys != marks {
-        return false;
-    }
-    if h.next == 0 {
-        return false;
-    }
     let slots = h.slots;
-    slots.shaped()
+    h.used <= Version::ROWS
+        && h.used <= keys
+        && keys == times
+        && keys == values
+        && keys == marks
+        && h.next != 0
+        && slots.shaped()
 }
 
 // A call that is refused changes nothing.

@@ -54,6 +54,7 @@ impl<'a> Stamps<'a> {
     {
         let mut best = None;
         let mut i = 0;
+        // The rule book has this walk as a loop that yields the best row, left by break.
         let found = loop {
             i = crate::pass(self.keys, i, self.used, |key| key == k);
             if i >= self.used {

@@ -8,7 +8,7 @@ use native.Mathlib.Numerals.{add-one}
 use native.Mathlib.Omega.{arith}
 use borrow.Author.Tests.{eqb-true, eqb-false}
 use lib.Dec.{eqb}
-use lib.ListN.{length, take, drop, get_or, set, length-set}
+use lib.ListN.{length, take, drop, get_or, set}
 use lib.Seq.{drop-cons, get_or-take, get_or-set_same, get_or-set_other, length-take-le}
 use Rattle.rules.specs.Bools.{split, or_right}
 use Rattle.rules.specs.Lists.{among}
