@@ -1,6 +1,6 @@
 -- What the pass of a key over the records carries: the key's updates so far, kept in three columns in
 -- the order of the journal. Assumes nothing.
-use Rattle.std.specs.Prelude.{◌≡◌, false, cond, List, ℕ, zero, suc, ◌≤◌, eqb, length, get_or, Some, None, Option}
+use Rattle.std.specs.Prelude.{◌≡◌, false, cond, List, ℕ, zero, suc, ◌+◌, ◌≤◌, eqb, get_or, Some, None, Option}
 use Rattle.rules.specs.declared.Record.{Record}
 use Rattle.rules.specs.Value.{Value}
 use Rattle.rules.specs.declared.Effect.{Effect}
@@ -10,18 +10,11 @@ use Rattle.rules.specs.Transactions.{of, wrote}
 use Rattle.rules.specs.Values.{value}
 use Rattle.record.specs.Bytes.{records_in}
 use Rattle.record.specs.declared.Records.{Records}
-use Rattle.values.specs.declared.value.Settled.{Settled}
 
 -- no record before this place writes the key
 pub record Unwritten (records : Records) (k i : ℕ) : Type 0 where
   pub within : i ≤ records.used
   pub before : wrote k (records_in i records.bytes.now) ≡ false
-
--- so many kept updates stand in their three columns: transaction, kind and amount
-pub record Aside (transactions kinds amounts : List ℕ) (count : ℕ) : Type 0 where
-  pub in_transactions : count ≤ length transactions
-  pub in_kinds : count ≤ length kinds
-  pub in_amounts : count ≤ length amounts
 
 -- the effect of a kept update: kind 2 assigns its amount, kind 3 adds it
 abbrev pub kept_effect : ℕ → ℕ → Effect
@@ -42,11 +35,12 @@ abbrev pub Does : ℕ → List Record → List ℕ → List ℕ → List ℕ →
 Does k rs transactions kinds amounts count =
     (n : ℕ) (old : Value) → kept_effects transactions kinds amounts n count old ≡ effects k (of n rs) old
 
--- what a pass over the records comes to
-pub record Settles (start : Value) (k t : ℕ) (rs : List Record) (transactions kinds amounts : List ℕ) (s : Settled) : Type 0 where
-  pub is : s.value ≡ value start k t rs
-  pub kept : Aside transactions kinds amounts s.count
-  pub does : Does k rs transactions kinds amounts s.count
+-- a record is kept behind the others
+pub record Grown (r : Record) (transactions kinds amounts : List ℕ) (n : ℕ) (transactions' kinds' amounts' : List ℕ) (n' : ℕ) : Type 0 where
+  pub count : n' ≡ n + 1
+  pub does :
+      (m : ℕ) (old : Value) → kept_effects transactions' kinds' amounts' m n' old
+      ≡ kept_step r.transaction r.kind r.value m (kept_effects transactions kinds amounts m n old)
 
 -- a read of k in transaction n from a snapshot, where the value of k's base row is start
 abbrev pub read_on : Value → List Record → ℕ → ℕ → ℕ → Value

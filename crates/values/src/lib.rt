@@ -2,4 +2,5 @@
 #![tactic(auto)]
 
 pub mod base;
+mod kept;
 pub mod value;

@@ -6,50 +6,19 @@ ghost use Rattle.rules.specs.Effects.{writes as writes_to};
 ghost use Rattle.rules.specs.Values.{row_value, value_at, value as value_in, read_in};
 ghost use Rattle.record.specs.Records.{records_of};
 ghost use Rattle.values.specs.Base.{base_rows};
-ghost use Rattle.values.specs.Pass.{Aside, Unwritten, kept_step, kept_effects, Settles, read_on};
+ghost use Rattle.values.specs.Pass.{Unwritten, Does, read_on};
 
 use crate::base::BaseRows;
+use crate::kept::Kept;
 use journal::Journal;
 use record::Records;
-use rules::{Effect, Record, Value};
+use rules::{Record, Value};
 
 // An update of the key. The key is tested first: few records have it.
 fn writes(r: Record, k: u32) -> bool
     ensures { result ≡ writes_to k r }
 {
     r.key == k && r.is_update()
-}
-
-// One kept update: its effect where it is the transaction's.
-fn kept_step(transaction: u32, kind: u8, amount: u32, n: u32, old: Value) -> Value
-    ensures { result ≡ kept_step transaction kind amount n old }
-{
-    if transaction != n {
-        return old;
-    }
-    if kind == Record::ASSIGN {
-        return rules::apply(Effect::Assign(amount), old);
-    }
-    rules::apply(Effect::Add(amount), old)
-}
-
-// What the kept updates of one transaction, the first count of them, make of a value, in their order.
-fn kept_effects(
-    transactions: &[u32],
-    kinds: &[u8],
-    amounts: &[u32],
-    count: usize,
-    n: u32,
-    old: Value,
-) -> Value
-    requires { Aside transactions.now kinds.now amounts.now count }
-    ensures { result ≡ kept_effects transactions.now kinds.now amounts.now n count old }
-{
-    let mut v = old;
-    for i in 0..count {
-        v = kept_step(transactions[i], kinds[i], amounts[i], n, v);
-    }
-    v
 }
 
 // Where the key's first update stands, or used: what commits before it changes nothing of the key.
@@ -64,41 +33,28 @@ fn first_update(records: Records<'_>, k: u32) -> usize
     records.used
 }
 
-// What a pass comes to: the value, and how many updates of the key it kept.
-#[derive(Clone, Copy)]
-struct Settled {
-    value: Value,
-    count: usize,
-}
-
-// The value of k at t. All updates of the key stay behind in three columns.
-fn settle(
+// The value of k at t. All updates of the key stay behind in what is kept.
+fn settle<const N: usize>(
     records: Records<'_>,
     start: Value,
     k: u32,
     t: u64,
-    transactions: &mut [u32],
-    kinds: &mut [u8],
-    amounts: &mut [u32],
-) -> Settled
-    requires { Aside transactions.old kinds.old amounts.old records.used }
-    ensures { Settles start k t (records_of records.entry) transactions.new kinds.new amounts.new result }
+    kept: &mut Kept<N>,
+) -> Value
+    requires { (records.used ≤ N) × (kept.old.count ≡ 0) }
+    ensures { (result ≡ value_in start k t (records_of records.entry)) × Does k (records_of records.entry) kept.new.transactions kept.new.kinds kept.new.amounts kept.new.count }
 {
-    let mut n = 0;
     let mut v = start;
     for i in first_update(records, k)..records.used {
         let r = records.at(i);
         if r.settles(t) {
-            v = kept_effects(transactions, kinds, amounts, n, r.transaction, v);
+            v = kept.effects(r.transaction, v);
         }
         if writes(r, k) {
-            transactions[n] = r.transaction;
-            kinds[n] = r.kind;
-            amounts[n] = r.value;
-            n += 1;
+            kept.push(r);
         }
     }
-    Settled { value: v, count: n }
+    v
 }
 
 // The value of k at t out of at most N records.
@@ -106,19 +62,8 @@ fn value_of<const N: usize>(records: Records<'_>, start: Value, k: u32, t: u64) 
     requires { (records.used ≤ N) × (N ≤ most_records) }
     ensures { result ≡ value_in start k t (records_of records.entry) }
 {
-    let mut transactions = [0u32; N];
-    let mut kinds = [0u8; N];
-    let mut amounts = [0u32; N];
-    settle(
-        records,
-        start,
-        k,
-        t,
-        &mut transactions,
-        &mut kinds,
-        &mut amounts,
-    )
-    .value
+    let mut kept = Kept::<N>::none();
+    settle(records, start, k, t, &mut kept)
 }
 
 // The value of k at t; start is the value of its base row.
@@ -144,19 +89,9 @@ fn read_of<const N: usize>(
     requires { (records.used ≤ N) × (N ≤ most_records) }
     ensures { result ≡ read_on start (records_of records.entry) n snapshot k }
 {
-    let mut transactions = [0u32; N];
-    let mut kinds = [0u8; N];
-    let mut amounts = [0u32; N];
-    let s = settle(
-        records,
-        start,
-        k,
-        snapshot,
-        &mut transactions,
-        &mut kinds,
-        &mut amounts,
-    );
-    kept_effects(&transactions, &kinds, &amounts, s.count, n, s.value)
+    let mut kept = Kept::<N>::none();
+    let v = settle(records, start, k, snapshot, &mut kept);
+    kept.effects(n, v)
 }
 
 // A read of k in transaction n; start is the value of its base row.
