@@ -1,5 +1,5 @@
 -- `versions::pass` meets its contract: the next 16 cells join those that were passed.
-use Rattle.std.proofs.Common.{◌≡◌, Bool, false, ℕ, List, ◌+◌, ◌-◌, ◌≤◌, take, drop, refl, sym, ◌∙◌, arith}
+use Rattle.std.proofs.Common.{◌≡◌, Bool, false, ℕ, List, ◌+◌, ◌-◌, ◌≤◌, take, drop, refl, arith}
 use Rattle.std.specs.List.{list_any}
 use Rattle.std.proofs.Math.Seq.{take-add}
 use Rattle.std.proofs.lemmas.List.{drop-drop}
@@ -28,4 +28,4 @@ pub loop-i-preserved : goal.loop-i-preserved
 loop-i-preserved g c =
     let l = c.loop-i in
     let a = c.args in
-    (omega (arith, l.invariant.0), omega (arith, l.invariant.1), λ p f. further p a.cells.now a.from l.i (l.i + 16) l.invariant.0 (omega arith) (l.invariant.2 p f) (sym (c.some.ensures p f) ∙ c.if-some.false))
+    (omega (arith, l.invariant.0), omega (arith, l.invariant.1), λ p f. further p a.cells.now a.from l.i (l.i + 16) l.invariant.0 (omega arith) (l.invariant.2 p f) (let e = c.some.ensures p f in cc))
