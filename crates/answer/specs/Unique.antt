@@ -1,10 +1,13 @@
 -- No second answer satisfies the contract of a public function of this crate. Assumes nothing.
-use Rattle.std.specs.Prelude.{◌≡◌, ℕ, Option, Result}
-use Rattle.std.proofs.Common.{sym, ◌∙◌}
+use Rattle.std.specs.Prelude.{◌≡◌, ℕ, Option, None, Result}
+use Rattle.std.specs.Result.{result_unwrap_or}
+use Rattle.std.proofs.Common.{sym, ap₂, ◌∙◌}
 use Rattle.rules.specs.Value.{Value}
 use Rattle.answer.specs.declared.Refusal.{Refusal}
+use Rattle.answer.specs.declared.Outcome.{Outcome}
 use Rattle.answer.specs.declared.shown.Answer.{Answer}
-use Rattle.answer.specs.Reply.{Reply, number_of, place_of, of_result}
+use Rattle.answer.specs.Reply.{Reply, number_of, place_of, of_done, of_result}
+use Rattle.answer.specs.Laws.{done_only}
 use Rattle.answer.specs.Shown.{shown, answer_of}
 
 pub number_unique : (x : Refusal) (a b : ℕ) → a ≡ number_of x → b ≡ number_of x → a ≡ b
@@ -26,3 +29,9 @@ given_unique given x a b p q = p ∙ sym q
 pub from_unique : {A : Type 0} (given : A → Value) (r : Result A Refusal) (a b : Answer) → a ≡ answer_of (of_result given r)
     → b ≡ answer_of (of_result given r) → a ≡ b
 from_unique given r a b p q = p ∙ sym q
+
+pub outcome_unique : {H : Type 0} (before : H) (after : Result H Refusal) (a b : Outcome H Unit)
+    → (a.head ≡ result_unwrap_or after before) × (of_done a.answer ≡ of_result (λ _. None) after)
+    → (b.head ≡ result_unwrap_or after before) × (of_done b.answer ≡ of_result (λ _. None) after) → a ≡ b
+outcome_unique {H} before after a b p q =
+    ap₂ (λ (h : H) (r : Result Unit Refusal). record { head = h; answer = r }) (p.0 ∙ sym q.0) (done_only a.answer b.answer (p.1 ∙ sym q.1))

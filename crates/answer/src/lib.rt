@@ -1,8 +1,9 @@
 // Section 6: what the calls of both stores answer: `Ok` with what the call gives, or `Err` with why it was refused.
 #![tactic(auto)]
 
-ghost use Rattle.std.specs.Prelude.{◌≡◌};
-ghost use Rattle.answer.specs.Reply.{number_of, place_of};
+ghost use Rattle.std.specs.Prelude.{◌≡◌, None};
+ghost use Rattle.std.specs.Result.{result_unwrap_or};
+ghost use Rattle.answer.specs.Reply.{number_of, place_of, of_done, of_result};
 
 pub mod shown;
 
@@ -62,4 +63,23 @@ impl Refusal {
 pub struct Outcome<H, T> {
     pub head: H,
     pub answer: Result<T, Refusal>,
+}
+
+impl<H: Copy> Outcome<H, ()> {
+    // Of a call that makes a new head or refuses: a refused one gives back the head before it.
+    pub fn of(before: H, after: Result<H, Refusal>) -> Self
+        ensures head { result.head ≡ result_unwrap_or after before }
+        ensures answer { of_done result.answer ≡ of_result (λ _. None) after }
+    {
+        match after {
+            Ok(head) => Outcome {
+                head,
+                answer: Ok(()),
+            },
+            Err(why) => Outcome {
+                head: before,
+                answer: Err(why),
+            },
+        }
+    }
 }

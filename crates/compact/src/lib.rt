@@ -116,6 +116,31 @@ fn zero(bytes: &mut [u8], from: usize, to: usize)
     bytes[from..to].fill(0);
 }
 
+// The records of some running transactions and of those that committed late move up, their begins raised, and everything behind them, up to a place,
+// becomes zero; how many they are.
+fn keep_up_to(
+    journal: &mut [u8],
+    used: usize,
+    t: u64,
+    running: &[u32],
+    lates: &[u32],
+    end: usize,
+) -> usize
+    requires { (used * record_size ≤ end) × (end ≤ length journal.old) }
+    ensures { Compacted (sifted (kept_in running.now lates.now) t (records_in used journal.old)) end journal.old result journal.new }
+{
+    let mut marks = [0u32; MARKS];
+    let alone = mark(lates, &mut marks);
+    let lates = Marked {
+        numbers: lates,
+        marks: &marks,
+        alone,
+    };
+    let count = keep(journal, used, t, running, lates);
+    zero(journal, count * Record::BYTES, end);
+    count
+}
+
 // Rule 3.9: the records of the transactions that run or committed after a time stay, the begins raised to it; how many they are.
 pub fn keep_running(journal: &mut [u8], used: usize, t: u64) -> usize
     requires { (used ≤ most_records) × (used * record_size ≤ length journal.old) }
@@ -126,17 +151,8 @@ pub fn keep_running(journal: &mut [u8], used: usize, t: u64) -> usize
     let opened = transactions::running_numbers(records, &mut running);
     let mut lates = [0u32; Journal::RECORDS];
     let late = times::late_numbers(records, t, &mut lates);
-    let numbers = &lates[..late];
-    let mut marks = [0u32; MARKS];
-    let alone = mark(numbers, &mut marks);
-    let lates = Marked {
-        numbers,
-        marks: &marks,
-        alone,
-    };
-    let count = keep(journal, used, t, &running[..opened], lates);
-    zero(journal, count * Record::BYTES, used * Record::BYTES);
-    count
+    let end = used * Record::BYTES;
+    keep_up_to(journal, used, t, &running[..opened], &lates[..late], end)
 }
 
 // Section 5: of the records that recovery's walk has accepted, those of the transactions with a commit stay; how many they are. Everything
@@ -148,15 +164,5 @@ pub fn keep_done(journal: &mut [u8], used: usize, low: u64, end: usize) -> usize
     let records = Records::new(journal, used);
     let mut lates = [0u32; Journal::RECORDS];
     let late = times::late_numbers(records, low, &mut lates);
-    let numbers = &lates[..late];
-    let mut marks = [0u32; MARKS];
-    let alone = mark(numbers, &mut marks);
-    let lates = Marked {
-        numbers,
-        marks: &marks,
-        alone,
-    };
-    let count = keep(journal, used, low, &[], lates);
-    zero(journal, count * Record::BYTES, end);
-    count
+    keep_up_to(journal, used, low, &[], &lates[..late], end)
 }

@@ -108,14 +108,5 @@ pub fn checkpoint(
 ) -> Outcome<Head, ()>
     ensures { Checkpointed t h keys.old values.old journal.old (of_done result.answer) result.head keys.new values.new journal.new }
 {
-    match shorten(h, keys, values, journal, t) {
-        Ok(head) => Outcome {
-            head,
-            answer: Ok(()),
-        },
-        Err(why) => Outcome {
-            head: h,
-            answer: Err(why),
-        },
-    }
+    Outcome::of(h, shorten(h, keys, values, journal, t))
 }

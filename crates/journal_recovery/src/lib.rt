@@ -77,14 +77,5 @@ pub fn recover(
 ) -> Outcome<Head, ()>
     ensures { Recovered h keys.now values.now journal.old survived (of_done result.answer) result.head journal.new }
 {
-    match restore(h, keys, values, journal, survived) {
-        Ok(head) => Outcome {
-            head,
-            answer: Ok(()),
-        },
-        Err(why) => Outcome {
-            head: h,
-            answer: Err(why),
-        },
-    }
+    Outcome::of(h, restore(h, keys, values, journal, survived))
 }

@@ -4,7 +4,7 @@ use Rattle.rules.specs.Kinds.{record_size}
 use Rattle.rules.specs.Checkpoints.{kept}
 use Rattle.record.specs.Bytes.{records_in}
 use Rattle.record.specs.Records.{records_of}
-use Rattle.compact.specs.Laws.{kept_columns, moved_up}
+use Rattle.compact.specs.Laws.{kept_columns}
 use Rattle.compact.proofs.keep_running.Goals as goal
 
 pub returns : goal.returns
@@ -14,4 +14,4 @@ returns c =
     let rs = records_in a.used a.journal.now in
     let e : records_of r ≡ rs = ap (λ u. records_in u r.bytes.now) c.new-records.ensures.1 ∙ ap (records_in a.used) c.new-records.ensures.0 in
     let k = kept_columns a.t r.used _ _ (records_of r) _ _ _ _ c.running_numbers-opened.ensures c.late_numbers-late.ensures in
-    moved_up (kept a.t rs) _ a.journal.now _ _ a.used _ (a.used * record_size) c.keep-count.ensures (rw e at k) (omega arith) c.zero.ensures
+    rw (rw e at k) at c.keep_up_to.ensures
