@@ -2,7 +2,7 @@
 ghost use Rattle.std.specs.Prelude.{◌≡◌};
 ghost use Rattle.rules.specs.Columns.{Rows};
 
-// A column of keys and one of values, and how many rows stand in both.
+// A column of keys and one of values, and how many rows stand in both: the columns are lent with free cells behind, and `column::find` takes the count.
 #[derive(Clone, Copy)]
 pub struct BaseRows<'a> {
     pub keys: &'a [u32],
