@@ -110,7 +110,9 @@ fn read(records: Records<'_>, start: Value, n: u32, snapshot: u64, k: u32) -> Va
 pub fn base_value(base: BaseRows<'_>, k: u32) -> Value
     ensures { result ≡ row_value (base_rows base.entry) k }
 {
-    let i = column::find(base.keys, base.count, k)?;
+    let Some(i) = column::find(base.keys, base.count, k) else {
+        return None;
+    };
     Some(base.values[i])
 }
 

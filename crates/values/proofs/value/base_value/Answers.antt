@@ -36,23 +36,23 @@ module _ (keys values : List ℕ) (rows k : ℕ) (there : Rows keys values rows)
   no_row : f ≡ None → None ≡ row_value (first_rows rows keys values) k
   no_row e = rw (same, e)
 
-pub returns-in_err-i : goal.returns-in_err-i
-returns-in_err-i c =
+pub returns-in_default : goal.returns-in_default
+returns-in_default c =
     let b = c.args.base in
-    c.from_residual.ensures ∙ no_row b.keys.now b.values.now b.count c.args.k b.there _ c.find.ensures c.in_err-i.was
+    no_row b.keys.now b.values.now b.count c.args.k b.there _ c.find.ensures c.in_default.is
 
 pub offset_bounds-base-i : goal.offset_bounds-base-i
 offset_bounds-base-i c =
     let b = c.args.base in
-    let h : c.in_ok-i.i < length b.values.now = in_values b.keys.now b.values.now b.count c.args.k b.there _ c.find.ensures _ c.in_ok-i.was in
+    let h : c.in-Some.i < length b.values.now = in_values b.keys.now b.values.now b.count c.args.k b.there _ c.find.ensures _ c.in-Some.is in
     search rules
 
 pub bounds-base-i : goal.bounds-base-i
 bounds-base-i c =
     let b = c.args.base in
-    in_values b.keys.now b.values.now b.count c.args.k b.there _ c.find.ensures _ c.in_ok-i.was
+    in_values b.keys.now b.values.now b.count c.args.k b.there _ c.find.ensures _ c.in-Some.is
 
 pub returns : goal.returns
 returns c =
     let b = c.args.base in
-    at_row b.keys.now b.values.now b.count c.args.k b.there _ c.find.ensures _ c.in_ok-i.was
+    at_row b.keys.now b.values.now b.count c.args.k b.there _ c.find.ensures _ c.in-Some.is
