@@ -13,6 +13,7 @@ ghost use Rattle.report.specs.Written.{Written, Reported};
 use answer::{Outcome, Refusal};
 use journal::{Base, Journal};
 use journal_store::Head;
+use record::Records;
 
 // The most bytes of a text: the lines of time and count, and one line for each row.
 pub const TEXT: usize = TIME_LINE + COUNT_LINE + ROWS * ROW_LINE;
@@ -96,8 +97,8 @@ fn listing(out: &mut [u8], h: Head, keys: &[u32], values: &[u32], journal: &[u8]
 {
     let mut listed = [0u32; ROWS];
     let mut contents = [0u32; ROWS];
-    let used = h.journal.used;
-    let last = journal::times::last(journal, used, h.low);
+    let records = Records::new(journal, h.journal.used);
+    let last = journal::times::last(records, h.low);
     match journal_list::list(h, keys, values, journal, last, &mut listed, &mut contents) {
         Err(refusal) => refused(out, refusal),
         Ok(count) => {
