@@ -11,7 +11,8 @@ use journal_store::Head;
 use rules::Record;
 use streams::{input, output};
 
-// What the journal gave: a listing of its records, one of no record at all, or a refusal.
+// What the journal gave: a listing of its records, one of no record at all, or a refusal. `list_store` has other cases, so that one enum for both would
+// have cases that neither meets.
 #[derive(Clone, Copy, Debug, PartialEq, Eq)]
 enum Ending {
     Listed,

@@ -10,7 +10,8 @@ use journal::Base;
 use journal_store::Head;
 use streams::{input, output};
 
-// What the file gave: a listing, a refusal by the store, or no whole store.
+// What the file gave: a listing, a refusal by the store, or no whole store. `list` has other cases, so that one enum for both would have cases that
+// neither meets.
 #[derive(Clone, Copy, Debug, PartialEq, Eq)]
 enum Ending {
     Listed,

@@ -1,4 +1,5 @@
-// The calls of the journal store. Each is lent the head by value, the two base columns, keys and values, and the journal's bytes.
+// The calls of the journal store. Each is lent the head by value, the two base columns, keys and values, and the journal's bytes, one by one as the C
+// interface has them; assign and add are two, since an effect is an enum.
 ghost use Rattle.std.specs.Prelude.{◌≡◌};
 ghost use Rattle.rules.specs.Calls.{Begin, Update, Abort, Commit};
 ghost use Rattle.journal_store.specs.Shape.{empty_head};

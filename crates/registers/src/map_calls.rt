@@ -1,4 +1,5 @@
-// The calls of the map store. Each is lent the head by value and the four version columns, keys, times, values and marks.
+// The calls of the map store. Each is lent the head by value and the four version columns, keys, times, values and marks, one by one as the C interface
+// has them; assign and add are two, since an effect is an enum.
 ghost use Rattle.std.specs.Prelude.{◌≡◌};
 ghost use Rattle.rules.specs.Calls.{Begin, Update, Abort};
 ghost use Rattle.versions.specs.Versions.{columns};

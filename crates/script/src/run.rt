@@ -83,7 +83,7 @@ impl Run {
     }
 }
 
-// The script on a store, for which the lines behind its word are.
+// The script on a store, for which the lines behind its word are. A line says which is next, so that no `for` counts them.
 pub fn follow<W: Write, S: Store>(out: &mut W, script: &[u8], word: Word, store: &mut S) {
     let mut run = Run::new(word);
     while run.goes(script) {

@@ -12,7 +12,7 @@ ghost use Rattle.slot.specs.Formed.{Rowed, Formed};
 use rules::Effect;
 
 // A transaction's slot: its number and snapshot, and a row for each key that it wrote, with what its updates of it come to: the mark 0 assigns
-// the value, any other adds it. count rows are in use.
+// the value, any other adds it. count rows are in use. Three columns and a count: the C interface hands it over so (`c/registers.h`).
 #[repr(C)]
 #[derive(Clone, Copy)]
 pub struct Slot {

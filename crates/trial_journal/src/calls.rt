@@ -1,4 +1,4 @@
-// The script's calls on the journal store.
+// The script's calls on the journal store. Those on the map store have other exported names and other columns: what both share is `script::run::follow`.
 use answer::shown::Answer;
 use journal::{Base, Journal};
 use journal_store::Head;

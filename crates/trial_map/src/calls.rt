@@ -1,4 +1,4 @@
-// The script's calls on the map store.
+// The script's calls on the map store. Those on the journal store have other exported names and other columns: what both share is `script::run::follow`.
 use answer::shown::Answer;
 use map_store::MapHead;
 use registers::MapResult;

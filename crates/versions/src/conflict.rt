@@ -21,7 +21,8 @@ pub fn first_late(times: &[u64], used: usize, s: u64) -> usize
     used
 }
 
-// Whether a later version meets a transaction: not if adds alone made it and the transaction only added.
+// Whether a later version meets a transaction: not if adds alone made it and the transaction only added. That it only added is a fact of the transaction,
+// which `later` names: no step is chosen by it.
 fn meets(mark: u8, adds: bool) -> bool
     ensures { result ≡ not (adds && not (eqb mark 0)) }
 {

@@ -48,7 +48,8 @@ impl<'a> Stamps<'a> {
         newest
     }
 
-    // Rule 3.8: the row of the newest version of k at or before t: the greatest time, the earliest row among equals.
+    // Rule 3.8: the row of the newest version of k at or before t: the greatest time, the earliest row among equals. The rule book names the form: a walk
+    // whose loop yields the best row, left by break.
     pub fn newest_row(self, k: u32, t: u64) -> Option<usize>
         ensures { (others : Columns) → result ≡ row_of (newest k t (versions_in self.entry others.values others.marks)) }
     {
