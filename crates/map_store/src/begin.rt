@@ -1,5 +1,5 @@
 // Begin: a new transaction with a snapshot from low to last. Refusals 1, 4, 5, 6, 7.
-ghost use Rattle.std.specs.Prelude.{◌≡◌, true, cond, ◌<◌, length};
+ghost use Rattle.std.specs.Prelude.{◌≡◌, ◌<◌, length};
 ghost use Rattle.rules.specs.Limits.{numbers_end};
 ghost use Rattle.rules.specs.Calls.{Begin};
 ghost use Rattle.answer.specs.Reply.{of_begun};
@@ -40,20 +40,17 @@ fn decide(
     Ok(h.next)
 }
 
-// The head with the new transaction, if the call was accepted.
-fn open(h: MapHead, accepted: bool, t: u64) -> MapHead
-    requires { accepted ≡ true → h.next < numbers_end }
-    ensures { result ≡ cond accepted (begun_head t h) h }
+// The head with the new transaction.
+fn open(h: MapHead, t: u64) -> MapHead
+    requires { h.next < numbers_end }
+    ensures { result ≡ begun_head t h }
 {
-    if accepted {
-        let slots = h.slots;
-        return MapHead {
-            next: h.next + 1,
-            slots: slots.opened(h.next, t),
-            ..h
-        };
+    let slots = h.slots;
+    MapHead {
+        next: h.next + 1,
+        slots: slots.opened(h.next, t),
+        ..h
     }
-    h
 }
 
 // Begins a transaction that reads as of t, and answers its number.
@@ -74,6 +71,9 @@ pub fn begin(
         };
     }
     let answer = decide(h, keys, times, values, marks, t);
-    let head = open(h, answer.is_ok(), t);
+    let Ok(_) = answer else {
+        return Outcome { head: h, answer };
+    };
+    let head = open(h, t);
     Outcome { head, answer }
 }
