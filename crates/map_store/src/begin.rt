@@ -1,29 +1,22 @@
 // Begin: a new transaction with a snapshot from low to last. Refusals 1, 4, 5, 6, 7.
-ghost use Rattle.std.specs.Prelude.{◌≡◌, true, cond, ◌<◌, length};
+ghost use Rattle.std.specs.Prelude.{◌≡◌, ◌<◌};
 ghost use Rattle.rules.specs.Limits.{numbers_end};
 ghost use Rattle.rules.specs.Calls.{Begin};
 ghost use Rattle.answer.specs.Reply.{of_begun};
 ghost use Rattle.versions.specs.Versions.{columns};
-ghost use Rattle.map_store.specs.Shape.{lengths, Shaped, meaning, room_of};
 ghost use Rattle.map_store.specs.Heads.{begun_head};
 ghost use Rattle.map_store.specs.CallContracts.{Decided, Answered};
+ghost use Rattle.map_store.specs.Lent.{meant, room_in};
 
-use crate::MapHead;
+use crate::{MapHead, Store};
 use answer::{Outcome, Refusal};
 use slot::Slots;
 
 // What a store of good shape answers.
-fn decide(
-    h: MapHead,
-    keys: &[u32],
-    times: &[u64],
-    values: &[u32],
-    marks: &[u8],
-    t: u64,
-) -> Result<u32, Refusal>
-    requires { Shaped h (lengths (columns keys.now times.now values.now marks.now)) }
-    ensures { Decided (Begin t) (room_of (length keys.now)) (meaning h (columns keys.now times.now values.now marks.now)) (of_begun result) }
+fn decide(store: Store<'_>, t: u64) -> Result<u32, Refusal>
+    ensures { Decided (Begin t) (room_in store.entry) (meant store.entry) (of_begun result) }
 {
+    let h = store.head;
     if t < h.low {
         return Err(Refusal::TooOld);
     }
@@ -40,20 +33,17 @@ fn decide(
     Ok(h.next)
 }
 
-// The head with the new transaction, if the call was accepted.
-fn open(h: MapHead, accepted: bool, t: u64) -> MapHead
-    requires { accepted ≡ true → h.next < numbers_end }
-    ensures { result ≡ cond accepted (begun_head t h) h }
+// The head with the new transaction.
+fn open(h: MapHead, t: u64) -> MapHead
+    requires { h.next < numbers_end }
+    ensures { result ≡ begun_head t h }
 {
-    if accepted {
-        let slots = h.slots;
-        return MapHead {
-            next: h.next + 1,
-            slots: slots.opened(h.next, t),
-            ..h
-        };
+    let slots = h.slots;
+    MapHead {
+        next: h.next + 1,
+        slots: slots.opened(h.next, t),
+        ..h
     }
-    h
 }
 
 // Begins a transaction that reads as of t, and answers its number.
@@ -67,13 +57,10 @@ pub fn begin(
 ) -> Outcome<MapHead, u32>
     ensures { Answered (Begin t) h (columns keys.now times.now values.now marks.now) (of_begun result.answer) result.head }
 {
-    if !crate::shaped(h, keys.len(), times.len(), values.len(), marks.len()) {
-        return Outcome {
-            head: h,
-            answer: Err(Refusal::BadShape),
-        };
-    }
-    let answer = decide(h, keys, times, values, marks, t);
-    let head = open(h, answer.is_ok(), t);
+    let answer = Store::new(&h, keys, times, values, marks).and_then(|store| decide(store, t));
+    let Ok(_) = answer else {
+        return Outcome { head: h, answer };
+    };
+    let head = open(h, t);
     Outcome { head, answer }
 }

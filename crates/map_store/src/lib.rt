@@ -19,7 +19,10 @@ pub mod abort;
 pub mod begin;
 pub mod lookup;
 pub mod read;
+mod store;
 pub mod update;
+
+pub(crate) use store::Store;
 
 // The map head: low, last, the next transaction number, how many versions are used, and the eight transaction slots.
 #[repr(C)]

@@ -3,28 +3,18 @@ ghost use Rattle.std.specs.Prelude.{◌≡◌};
 ghost use Rattle.answer.specs.Reply.{of_got, told};
 ghost use Rattle.versions.specs.Versions.{columns};
 ghost use Rattle.map_store.specs.Meaning.{read_refusal, read_in};
-ghost use Rattle.map_store.specs.Shape.{lengths, Shaped, meaning};
 ghost use Rattle.map_store.specs.CallContracts.{read_reply};
+ghost use Rattle.map_store.specs.Lent.{meant};
 
-use crate::MapHead;
+use crate::{MapHead, Store};
 use answer::Refusal;
 use rules::Value;
-use versions::Stamps;
 
 // What a store of good shape answers.
-fn decide(
-    h: MapHead,
-    keys: &[u32],
-    times: &[u64],
-    values: &[u32],
-    marks: &[u8],
-    n: u32,
-    k: u32,
-) -> Result<Value, Refusal>
-    requires { Shaped h (lengths (columns keys.now times.now values.now marks.now)) }
-    ensures { of_got result ≡ told (read_refusal n k (meaning h (columns keys.now times.now values.now marks.now))) (read_in n k (meaning h (columns keys.now times.now values.now marks.now))) }
+fn decide(store: Store<'_>, n: u32, k: u32) -> Result<Value, Refusal>
+    ensures { of_got result ≡ told (read_refusal n k (meant store.entry)) (read_in n k (meant store.entry)) }
 {
-    let slots = h.slots;
+    let slots = store.head.slots;
     let Some(i) = slots.find(n) else {
         return Err(Refusal::UnknownTransaction);
     };
@@ -32,8 +22,7 @@ fn decide(
         return Err(Refusal::BadKey);
     }
     let s = slots.at(i);
-    let stamps = Stamps::new(keys, times, h.used);
-    Ok(crate::current_value(s, stamps, values, k))
+    Ok(crate::current_value(s, store.stamps, store.values, k))
 }
 
 // What the transaction reads in k: the value at its snapshot, then its own updates.
@@ -48,8 +37,5 @@ pub fn read(
 ) -> Result<Value, Refusal>
     ensures { of_got result ≡ read_reply n k h (columns keys.now times.now values.now marks.now) }
 {
-    if !crate::shaped(h, keys.len(), times.len(), values.len(), marks.len()) {
-        return Err(Refusal::BadShape);
-    }
-    decide(h, keys, times, values, marks, n, k)
+    Store::new(&h, keys, times, values, marks).and_then(|store| decide(store, n, k))
 }

@@ -1,16 +1,10 @@
 -- `map_store::update::is_full` meets its contract: a key that is found has a row, another one needs one. Assumes nothing.
-use mathlib.Core.Path.{◌≡◌, refl, sym, ap, ◌∙◌}
-use mathlib.Core.Bool.{false, not, ◌||◌}
-use Prim.Native.Nat.{ℕ}
-use lib.Dec.{leb, ltb}
-use lib.ListN.{length}
+use mathlib.Core.Path.{◌≡◌, sym, ap, ◌∙◌}
+use mathlib.Core.Bool.{not}
+use lib.Dec.{leb}
 use borrow.Author.Tests.{leb-true, leb-false, le-ltb, lt-ltb}
-use Rattle.std.specs.Prelude.{Option, Some, None}
 use Rattle.rules.specs.Bools.{split}
-use Rattle.slot.specs.declared.Slot.{Slot}
-use Rattle.slot.specs.Slot.{key_row}
 use Rattle.std.specs.Option.{is_some}
-use Rattle.slot.specs.Formed.{Rowed}
 use Rattle.slot.specs.Places.{has_key, slot_rows}
 use Rattle.slot.specs.RowLaws.{has_row, length_rows}
 use Rattle.map_store.proofs.update.is_full.Goals as goal
