@@ -25,88 +25,95 @@ fn room(rows: usize) -> usize
     Version::ROWS.min(rows)
 }
 
-// Whether row i of a slot is the first that has its key: of one key twice it alone counts.
-fn is_first(s: Slot, i: usize) -> bool
-    requires { Rowed s × (i < s.count) }
-    ensures { result ≡ is_first s i }
-{
-    let written = s.keys;
-    let k = written[i];
-    column::find(&written, i, k).is_none()
+// The slot of a transaction, with at most 32 rows in use: what it wrote.
+#[derive(Clone, Copy)]
+struct Written<'a> {
+    slot: &'a Slot,
+    ghost rowed: { Rowed slot.now },
 }
 
-// How many keys the transaction of a slot wrote.
-fn count_written(s: Slot) -> usize
-    requires { Rowed s }
-    ensures { result ≡ length (firsts (slot_rows s)) }
-{
-    let mut count = 0;
-    for i in 0..s.count {
-        if is_first(s, i) {
-            count += 1;
-        }
+impl Written<'_> {
+    // Whether row i is the first that has its key: of one key twice it alone counts.
+    fn is_first(self, i: usize) -> bool
+        requires { i < self.slot.now.count }
+        ensures { result ≡ is_first self.entry.slot.now i }
+    {
+        let written = &self.slot.keys;
+        column::find(written, i, written[i]).is_none()
     }
-    count
-}
 
-// Rule 3.6: whether a key that the transaction of a slot wrote has a version later than its snapshot that met it.
-fn conflicts(s: Slot, stamps: Stamps<'_>, marks: &[u8]) -> bool
-    requires { Rowed s × (stamps.used ≤ length marks.now) }
-    ensures { (values : List ℕ) → result ≡ clash s.snapshot (firsts (slot_rows s)) (versions_in stamps.entry values marks.now) }
-{
-    let written = s.keys;
-    let from = versions::first_late(stamps.times, stamps.used, s.snapshot);
-    for i in 0..s.count {
-        if is_first(s, i) {
-            let e = s.effect(i);
-            if stamps.is_later(marks, from, written[i], e.adds(), s.snapshot) {
-                return true;
+    // How many keys the transaction wrote.
+    fn count(self) -> usize
+        ensures { result ≡ length (firsts (slot_rows self.entry.slot.now)) }
+    {
+        let mut count = 0;
+        for i in 0..self.slot.count {
+            if self.is_first(i) {
+                count += 1;
             }
         }
+        count
     }
-    false
-}
 
-// Rule 3.8: the version of row i of a slot at t: its effect on the newest committed value, which is that at last, marked if it only adds.
-fn version(s: Slot, i: usize, stamps: Stamps<'_>, values: &[u32], last: u64, t: u64) -> Version
-    requires { Rowed s × (i < s.count) × (stamps.used ≤ length values.now) }
-    ensures { (marks : List ℕ) → result ≡ version_of (newest_in last stamps.entry.used (columns stamps.entry.keys.now stamps.entry.times.now values.now marks)) t (row_at s i) }
-{
-    let written = s.keys;
-    let k = written[i];
-    let e = s.effect(i);
-    let value = versions::applied_at(stamps, values, k, last, e);
-    Version {
-        key: k,
-        time: t,
-        value: value.unwrap_or(0),
-        mark: e.mark(),
+    // Rule 3.6: whether a key that the transaction wrote has a version later than its snapshot that met it.
+    fn conflicts(self, stamps: Stamps<'_>, marks: &[u8]) -> bool
+        requires { stamps.used ≤ length marks.now }
+        ensures { (values : List ℕ) → result ≡ clash self.entry.slot.now.snapshot (firsts (slot_rows self.entry.slot.now)) (versions_in stamps.entry values marks.now) }
+    {
+        let s = self.slot;
+        let from = versions::first_late(stamps.times, stamps.used, s.snapshot);
+        for i in 0..s.count {
+            if self.is_first(i) {
+                let e = s.effect(i);
+                if stamps.is_later(marks, from, s.keys[i], e.adds(), s.snapshot) {
+                    return true;
+                }
+            }
+        }
+        false
     }
-}
 
-// Rule 3.8: a version at t for each key of a slot, in order of first update. Answers how many versions are used then.
-fn stamp(
-    s: Slot,
-    keys: &mut [u32],
-    times: &mut [u64],
-    values: &mut [u32],
-    marks: &mut [u8],
-    used: usize,
-    last: u64,
-    t: u64,
-) -> usize
-    requires { Rowed s × (used ≤ Version.ROWS) × Spans (used + length (firsts (slot_rows s))) (columns keys.old times.old values.old marks.old) }
-    ensures { Stamped (newest_in last used (columns keys.old times.old values.old marks.old)) t used (firsts (slot_rows s)) (columns keys.old times.old values.old marks.old) (columns keys.new times.new values.new marks.new) result }
-{
-    let mut at = used;
-    for i in 0..s.count {
-        if is_first(s, i) {
-            let v = version(s, i, Stamps::new(keys, times, used), values, last, t);
-            versions::append(keys, times, values, marks, at, v);
-            at += 1;
+    // Rule 3.8: the version of row i at t: its effect on the newest committed value, which is that at last, marked if it only adds.
+    fn version(self, i: usize, stamps: Stamps<'_>, values: &[u32], last: u64, t: u64) -> Version
+        requires { (i < self.slot.now.count) × (stamps.used ≤ length values.now) }
+        ensures { (marks : List ℕ) → result ≡ version_of (newest_in last stamps.entry.used (columns stamps.entry.keys.now stamps.entry.times.now values.now marks)) t (row_at self.entry.slot.now i) }
+    {
+        let s = self.slot;
+        let k = s.keys[i];
+        let e = s.effect(i);
+        let value = versions::applied_at(stamps, values, k, last, e);
+        Version {
+            key: k,
+            time: t,
+            value: value.unwrap_or(0),
+            mark: e.mark(),
         }
     }
-    at
+
+    // Rule 3.8: a version at t for each key, in order of first update. Answers how many versions are used then.
+    fn stamp(
+        self,
+        keys: &mut [u32],
+        times: &mut [u64],
+        values: &mut [u32],
+        marks: &mut [u8],
+        used: usize,
+        last: u64,
+        t: u64,
+    ) -> usize
+        requires { (used ≤ Version.ROWS) × Spans (used + length (firsts (slot_rows self.slot.now))) (columns keys.old times.old values.old marks.old) }
+        ensures { Stamped (newest_in last used (columns keys.old times.old values.old marks.old)) t used (firsts (slot_rows self.entry.slot.now)) (columns keys.old times.old values.old marks.old) (columns keys.new times.new values.new marks.new) result }
+    {
+        let mut at = used;
+        for i in 0..self.slot.count {
+            if self.is_first(i) {
+                let v = self.version(i, Stamps::new(keys, times, used), values, last, t);
+                versions::append(keys, times, values, marks, at, v);
+                at += 1;
+            }
+        }
+        at
+    }
 }
 
 // Commits a running transaction at t.
@@ -131,14 +138,16 @@ pub fn commit(
     if t <= h.last {
         return map_store::refused(h, Refusal::NotLater);
     }
-    let s = slots.slots[i];
-    if conflicts(s, Stamps::new(keys, times, h.used), marks) {
+    let written = Written {
+        slot: &slots.slots[i],
+    };
+    if written.conflicts(Stamps::new(keys, times, h.used), marks) {
         return map_store::refused(h, Refusal::Conflict);
     }
-    if room(keys.len()) < h.used + count_written(s) {
+    if room(keys.len()) < h.used + written.count() {
         return map_store::refused(h, Refusal::NoRoom);
     }
-    let used = stamp(s, keys, times, values, marks, h.used, h.last, t);
+    let used = written.stamp(keys, times, values, marks, h.used, h.last, t);
     Outcome {
         head: MapHead {
             last: t,

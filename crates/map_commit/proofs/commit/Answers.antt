@@ -60,36 +60,36 @@ new-requires c =
     let l = lent c.args.h (cells (goal.at.new-requires c).In-Some) (good (goal.at.new-requires c).In-Some) in
     (l.keys, l.times)
 
+pub invariant_of-written : goal.invariant_of-written
+invariant_of-written c = record { rowed = rowed (goal.at.invariant_of-written c).In-Some }
+
 pub conflicts-requires : goal.conflicts-requires
 conflicts-requires c =
     let l = lent c.args.h (cells (goal.at.conflicts-requires c).In-Some) (good (goal.at.conflicts-requires c).In-Some) in
-    (rowed (goal.at.conflicts-requires c).In-Some, rw c.new.ensures.2 l.marks)
+    rw c.new.ensures.2 l.marks
 
 pub returns-then-conflicts : goal.returns-then-conflicts
 returns-then-conflicts c =
     commit_turned_down (passes (goal.at.returns-then-conflicts c).In-Some) _ Conflict c.refused-then-conflicts.ensures
     (commit_conflict (place (goal.at.returns-then-conflicts c).In-Some) c.if-t-h.false (rw (c.new.ensures.0, c.new.ensures.1, c.new.ensures.2) at (c.conflicts.ensures (cells (goal.at.returns-then-conflicts c).In-Some).values)) c.if-conflicts.true)
 
-pub count_written-requires : goal.count_written-requires
-count_written-requires c = rowed (goal.at.count_written-requires c).In-Some
-
 pub overflow_add-h : goal.overflow_add-h
 overflow_add-h c =
     let s = slot_at c.args.h.slots c.in-Some.i in
-    omega (arith, c.count_written.ensures, length_firsts (slot_rows s), length_rows s.keys s.values s.marks s.count, (rowed (goal.at.overflow_add-h c).In-Some).count, (good (goal.at.overflow_add-h c).In-Some).limit)
+    omega (arith, c.count.ensures, length_firsts (slot_rows s), length_rows s.keys s.values s.marks s.count, (rowed (goal.at.overflow_add-h c).In-Some).count, (good (goal.at.overflow_add-h c).In-Some).limit)
 
 pub returns-then-room-h : goal.returns-then-room-h
 returns-then-room-h c =
     commit_turned_down (passes (goal.at.returns-then-room-h c).In-Some) _ NoRoom c.refused-then-room-h.ensures
     (commit_room (place (goal.at.returns-then-room-h c).In-Some) c.if-t-h.false (rw (c.new.ensures.0, c.new.ensures.1, c.new.ensures.2) at (c.conflicts.ensures (cells (goal.at.returns-then-room-h c).In-Some).values)) c.if-conflicts.false (length_versions c.args.h.used (cells (goal.at.returns-then-room-h c).In-Some))
-    c.count_written.ensures (rw c.room.ensures at c.if-room-h.true))
+    c.count.ensures (rw c.room.ensures at c.if-room-h.true))
 
 pub stamp-used-requires : goal.stamp-used-requires
-stamp-used-requires c = (rowed (goal.at.stamp-used-requires c).In-Some, (good (goal.at.stamp-used-requires c).In-Some).limit, room_lent c.args.h (cells (goal.at.stamp-used-requires c).In-Some) (good (goal.at.stamp-used-requires c).In-Some) _ (rw (c.room.ensures, c.count_written.ensures) at c.if-room-h.false))
+stamp-used-requires c = ((good (goal.at.stamp-used-requires c).In-Some).limit, room_lent c.args.h (cells (goal.at.stamp-used-requires c).In-Some) (good (goal.at.stamp-used-requires c).In-Some) _ (rw (c.room.ensures, c.count.ensures) at c.if-room-h.false))
 
 pub returns : goal.returns
 returns c =
     commit_carried_out (passes (goal.at.returns c).In-Some)
     (commit_done (place (goal.at.returns c).In-Some) c.if-t-h.false (rw (c.new.ensures.0, c.new.ensures.1, c.new.ensures.2) at (c.conflicts.ensures (cells (goal.at.returns c).In-Some).values)) c.if-conflicts.false (length_versions c.args.h.used (cells (goal.at.returns c).In-Some))
-    c.count_written.ensures (rw c.room.ensures at c.if-room-h.false))
+    c.count.ensures (rw c.room.ensures at c.if-room-h.false))
     (freed c.in-Some.ensures.value refl c.stamp-used.ensures c.closed.ensures)

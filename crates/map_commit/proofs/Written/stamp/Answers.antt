@@ -1,4 +1,4 @@
--- `map_commit::stamp` meets its contract: the loop's invariant is that the rows that count among the first i are written. Assumes nothing.
+-- `map_commit::Written::stamp` meets its contract: the loop's invariant is that the rows that count among the first i are written. Assumes nothing.
 use mathlib.Core.Path.{◌≡◌, sym, ap, ◌∙◌}
 use mathlib.Core.Bool.{Bool, true, false}
 use mathlib.Core.List.{List}
@@ -16,8 +16,8 @@ use Rattle.map_store.specs.MeaningLaws.{written_long}
 use Rattle.map_commit.specs.Commit.{rows_to, row_at, is_first, newest_in, Stamped}
 use Rattle.map_commit.specs.RowLaws.{first_more, first_same, firsts_among, stamped_more, stamped_used}
 use native.Mathlib.Omega.{arith}
-use Rattle.map_commit.proofs.stamp.Goals as goal
-use Rattle.map_commit.proofs.stamp.Goals.{then-is_first, else-is_first}
+use Rattle.map_commit.proofs.Written.stamp.Goals as goal
+use Rattle.map_commit.proofs.Written.stamp.Goals.{then-is_first, else-is_first}
 
 -- what was written leaves the lengths
 long : (newest : ℕ → Value) (t used : ℕ) (rows : List Note) (cs cs' : Columns) (r : ℕ) → Stamped newest t used rows cs cs' r → Long cs cs'
@@ -57,8 +57,8 @@ pub append-requires : goal.append-requires
 append-requires c =
     let a = c.args in
     let cs = columns a.keys.now a.times.now a.values.now a.marks.now in
-    room a.s a.last a.t a.used cs c.loop-i.i _ _ c.loop-i.invariant.1
-    _ c.is_first.ensures a.s.count c.loop-i-test.true c.if-is_first.true c.requires.2
+    room a.self.slot.now a.last a.t a.used cs c.loop-i.i _ _ c.loop-i.invariant.1
+    _ c.is_first.ensures a.self.slot.now.count c.loop-i-test.true c.if-is_first.true c.requires.1
 
 pub loop-i-preserved : goal.loop-i-preserved
 loop-i-preserved c =
@@ -69,13 +69,13 @@ loop-i-preserved c =
       | then-is_first w ↦ (
         omega (arith, l.invariant.0, w.at-is),
         rw (w.keys-is, w.times-is, w.values-is, w.marks-is, w.at-is)
-            (more a.s a.last a.t a.used cs l.i _ _ l.invariant.1
+            (more a.self.slot.now a.last a.t a.used cs l.i _ _ l.invariant.1
             _ c.is_first.ensures w.if-is_first.true _ (rw (w.new.ensures.0, w.new.ensures.1, w.new.ensures.2) at (w.version-v.ensures l.marks)) _ w.append.ensures),
       )
       | else-is_first w ↦ (
         omega (arith, l.invariant.0, w.at-is),
         rw (w.keys-is, w.times-is, w.values-is, w.marks-is, w.at-is)
-            (same a.s a.last a.t a.used cs l.i _ _ l.invariant.1
+            (same a.self.slot.now a.last a.t a.used cs l.i _ _ l.invariant.1
             _ c.is_first.ensures w.if-is_first.false),
       )
     ]

@@ -1,4 +1,4 @@
--- `map_commit::conflicts` meets its contract: the loop's invariant is that none of the first i rows clashes. Assumes nothing.
+-- `map_commit::Written::conflicts` meets its contract: the loop's invariant is that none of the first i rows clashes. Assumes nothing.
 use mathlib.Core.Path.{◌≡◌, sym, ◌∙◌}
 use mathlib.Core.Bool.{Bool, true}
 use mathlib.Core.List.{List}
@@ -15,7 +15,7 @@ use Rattle.map_store.specs.Meaning.{firsts, clash}
 use Rattle.map_commit.specs.Commit.{rows_to, is_first}
 use Rattle.map_commit.specs.RowLaws.{clash_here, clash_among}
 use native.Mathlib.Omega.{arith}
-use Rattle.map_commit.proofs.conflicts.Goals as goal
+use Rattle.map_commit.proofs.Written.conflicts.Goals as goal
 
 module _ (s : Slot) (versions : List Version) (i : ℕ) (f : Bool) (g : f ≡ is_first s i) where
   module _ (first : f ≡ true) (x : Effect) (p : x ≡ effect_at s i) (adds : Bool) (q : adds ≡ is_add x) (b : Bool)
@@ -29,5 +29,5 @@ module _ (s : Slot) (versions : List Version) (i : ℕ) (f : Bool) (g : f ≡ is
 pub returns-then-is_later : goal.returns-then-is_later
 returns-then-is_later c values =
     let a = c.args in
-    hit a.s (versions_in a.stamps values a.marks.now) c.loop-i.i _ c.is_first.ensures c.if-is_first.true
-    _ c.effect-e.ensures _ c.adds.ensures _ (c.is_later.ensures values) a.s.count c.loop-i-test.true c.if-is_later.true
+    hit a.self.slot.now (versions_in a.stamps values a.marks.now) c.loop-i.i _ c.is_first.ensures c.if-is_first.true
+    _ c.effect-e.ensures _ c.adds.ensures _ (c.is_later.ensures values) a.self.slot.now.count c.loop-i-test.true c.if-is_later.true

@@ -1,8 +1,0 @@
--- `map_commit::count_written` meets its contract: the loop's invariant is the count of the rows that count among the first i. Assumes nothing.
-use Rattle.std.proofs.Common.{◌≡◌, ◌≤◌, length}
-use Rattle.map_store.specs.Meaning.{firsts}
-use Rattle.map_commit.specs.Commit.{rows_to}
-use Rattle.map_commit.proofs.count_written.Given as goal
-
-abbrev pub invariant-loop-i : goal.invariant-loop-i
-invariant-loop-i l = (l.count ≤ l.i) × (l.count ≡ length (firsts (rows_to l.s l.i)))
