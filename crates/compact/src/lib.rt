@@ -92,7 +92,7 @@ fn is_kept(r: Record, running: &[u32], lates: Marked<'_>) -> bool
         && (column::is_in(running, running.len(), r.transaction) || lates.has(r.transaction))
 }
 
-// The records that stay move up, their begins raised; how many they are.
+// The records that stay move up, their begins raised; how many they are. Bytes and a count, and no `Records`: these cannot be lent while the bytes move.
 fn keep(journal: &mut [u8], used: usize, t: u64, running: &[u32], lates: Marked<'_>) -> usize
     requires { used * record_size ≤ length journal.old }
     ensures { Moved (sifted (kept_in running.now lates.entry.numbers.now) t (records_in used journal.old)) journal.old used result journal.new }

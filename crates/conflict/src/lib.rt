@@ -33,7 +33,7 @@ fn is_new_key(r: Record, n: u32, adds: bool, keys: &[u32], count: usize) -> bool
     r.transaction == n && counts(r, adds) && !column::is_in(keys, count, r.key)
 }
 
-// The distinct keys that a transaction wrote or, where adds do not count, assigned, into a column; how many they are.
+// The distinct keys that a transaction wrote or, where adds do not count, assigned, into a column, since there is no heap for a list; how many they are.
 fn keys_written(records: Records<'_>, n: u32, adds: bool, keys: &mut [u32]) -> usize
     requires { records.used ≤ length keys.old }
     ensures { Gathered (keys_written (counting adds (of n (records_of records.entry)))) records.entry.used result keys.old keys.new }

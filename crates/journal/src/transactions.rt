@@ -119,7 +119,7 @@ fn opens_at(records: Records<'_>, i: usize, top: u64, r: Record) -> bool
     top <= r.transaction as u64 || is_unknown(records.first(i), r.transaction)
 }
 
-// The running transactions, into a column in the order of their begins; how many they are.
+// The running transactions, into a column in the order of their begins; how many they are. The column is lent, since there is no heap for a list.
 pub fn running_numbers(records: Records<'_>, numbers: &mut [u32]) -> usize
     requires { records.used ≤ length numbers.old }
     ensures { Gathered (running (records_of records.entry)) records.entry.used result numbers.old numbers.new }

@@ -1,6 +1,6 @@
 -- How a call's parts make its contract: what was decided on the meaning, then done to the cells if it was accepted. Assumes nothing.
 use Rattle.std.specs.Prelude.{◌≡◌, refl, Bool, true, false, cond, List, ◌++◌, ℕ, ◌+◌, ◌*◌, ◌≤◌, ◌<◌, eqb, length, drop, Some, None, Option}
-use Rattle.std.proofs.Common.{sym, ap, ◌∙◌, arith, le-leb}
+use Rattle.std.proofs.Common.{sym, ap, ◌∙◌, arith, le-leb, eqb-true}
 use Rattle.std.proofs.lemmas.Bool.{lt-leb}
 use Rattle.rules.specs.Bools.{split}
 use Rattle.rules.specs.Kinds.{record_size}
@@ -31,6 +31,13 @@ need_some (Update n k e) s = omega arith
 need_some (Abort n) s = omega arith
 need_some (Commit n t) s = omega arith
 
+-- an accepted call has room for its record
+pub has_room : {c : Call} {room used : ℕ} {s : Store} {a : Reply} {accepted : Bool} → Decided c room s a → accepted ≡ eqb a.number 0
+    → length s.records ≡ used → accepted ≡ true → used + 1 ≤ room
+has_room {c} {room} {used} {s} {a} d y u e =
+    let z : answer room c s ≡ 0 = eqb-true (answer room c s) 0 (sym (ap (λ (r : Reply). eqb r.number 0) d.reply) ∙ sym y ∙ e) in
+    omega (arith, room_left room c s z, need_some c s)
+
 -- the number of a call, by the shape test
 counted : (c : Call) (h : Head) (keys values j : List ℕ) (b : Bool) → is_shaped h (length keys) (length values) (length j) ≡ b
     → number c h keys values j ≡ cond b (answer (room_of (length j)) c (meaning h keys values j)) 1
@@ -51,9 +58,9 @@ module _ {c : Call} {h : Head} {keys values j : List ℕ} where
       told_number : a.number ≡ number c h keys values j
       told_number = ap (λ (r : Reply). r.number) w.reply
 
-      -- an accepted call has room for its record
-      pub has_room : a.number ≡ 0 → h.journal.used + 1 ≤ room_of (length j)
-      has_room z =
+      -- the same of a store that a call is lent
+      pub told_room : a.number ≡ 0 → h.journal.used + 1 ≤ room_of (length j)
+      told_room z =
           split (is_shaped h (length keys) (length values) (length j))
           (λ e.
           let q : answer (room_of (length j)) c (meaning h keys values j) ≡ 0 = sym (counted c h keys values j true e) ∙ sym told_number ∙ z in

@@ -49,7 +49,7 @@ fn pick_kept(stamps: Stamps<'_>, t: u64, listed: &mut [u32], places: &mut [u32],
     pick_zero(stamps, t, picks);
 }
 
-// Moves the picked rows up, in order, and answers how many there are.
+// Moves the picked rows up, in order, and answers how many there are. The columns come one by one, as the C interface lends them.
 fn move_up(
     keys: &mut [u32],
     times: &mut [u64],

@@ -67,7 +67,7 @@ fn pair(out: &mut [u8], at: usize, first: &[u8], n: u64, second: &[u8], m: u64) 
     line(out, next, second, m)
 }
 
-// One row a line, from two columns.
+// One row a line, from the first rows of two columns, of which `first_rows` says the same.
 fn rows(out: &mut [u8], at: usize, keys: &[u32], values: &[u32], count: usize) -> usize
     requires { (count ≤ length keys.now) × (count ≤ length values.now) × (at + count * row_bytes ≤ length out.old) }
     ensures { Written out.old at (row_lines (first_rows count keys.now values.now)) result out.new }

@@ -96,7 +96,8 @@ pub fn applied_at(stamps: Stamps<'_>, values: &[u32], k: u32, t: u64, e: Effect)
     }
 }
 
-// Rule 3.8: one version more, in row `used`.
+// Rule 3.8: one version more, in row `used`. Four columns and a count, as the C interface lends them: a struct of columns lent mutably would be built and
+// taken apart at each call.
 pub fn append(
     keys: &mut [u32],
     times: &mut [u64],

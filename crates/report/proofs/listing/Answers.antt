@@ -41,9 +41,8 @@ module _ (out : List ℕ) (t n : ℕ) (big : text_bytes ≤ length out) (small :
       whole w = then time_fits p (then count_fits q w)
 
 -- last of the records lent is that of the journal's used ones
-last_is : {low used u n : ℕ} {j b : List ℕ} → (b ≡ j) × (u ≡ used) → n ≡ last low (records_in u b) → n ≡ last low (records_in used j)
-last_is {low} {used} {u} {n} {j} {b} p e =
-    e ∙ ap (λ (x : List ℕ). last low (records_in u x)) p.0 ∙ ap (λ (x : ℕ). last low (records_in x j)) p.1
+last_is : (low used u n : ℕ) (j b : List ℕ) → (b ≡ j) × (u ≡ used) → n ≡ last low (records_in u b) → n ≡ last low (records_in used j)
+last_is low used u n j b p e = e ∙ ap (λ (x : List ℕ). last low (records_in u x)) p.0 ∙ ap (λ (x : ℕ). last low (records_in x j)) p.1
 
 pub line-time-requires : goal.line-time-requires
 line-time-requires c = time_fits c.args.out.now c.last-last.result 0 c.requires.1 (omega arith) (omega arith)
@@ -51,25 +50,25 @@ line-time-requires c = time_fits c.args.out.now c.last-last.result 0 c.requires.
 pub line-head-requires : goal.line-head-requires
 line-head-requires c =
     let n = c.in-Ok.count in
-    let few = list_few c.args.h c.args.keys.now c.args.values.now c.args.journal.now _ _ _ c.requires.0 refl refl (last_is c.new-records.ensures c.last-last.ensures) _ c.in-Ok.ensures n refl in
+    let few = list_few c.args.h c.args.keys.now c.args.values.now c.args.journal.now _ _ _ c.requires.0 refl refl (last_is c.args.h.low c.args.h.journal.used _ _ c.args.journal.now _ c.new-records.ensures c.last-last.ensures) _ c.in-Ok.ensures n refl in
     count_fits c.args.out.now c.last-last.result n c.requires.1 (omega arith) few _ c.line-time.ensures
 
 pub rows-requires : goal.rows-requires
 rows-requires c =
     let n = c.in-Ok.count in
-    let few = list_few c.args.h c.args.keys.now c.args.values.now c.args.journal.now _ _ _ c.requires.0 refl refl (last_is c.new-records.ensures c.last-last.ensures) _ c.in-Ok.ensures n refl in (
+    let few = list_few c.args.h c.args.keys.now c.args.values.now c.args.journal.now _ _ _ c.requires.0 refl refl (last_is c.args.h.low c.args.h.journal.used _ _ c.args.journal.now _ c.new-records.ensures c.last-last.ensures) _ c.in-Ok.ensures n refl in (
       omega (arith, few),
       omega (arith, few),
       rows_fit c.args.out.now c.last-last.result n c.requires.1 (omega arith) few _ c.line-time.ensures _ c.line-head.ensures,
     )
 
 pub returns-in-Err : goal.returns-in-Err
-returns-in-Err c = never_refused c.args.h c.args.keys.now c.args.values.now c.args.journal.now _ _ _ c.requires.0 refl refl (last_is c.new-records.ensures c.last-last.ensures) _ c.in-Err.ensures _ refl
+returns-in-Err c = never_refused c.args.h c.args.keys.now c.args.values.now c.args.journal.now _ _ _ c.requires.0 refl refl (last_is c.args.h.low c.args.h.journal.used _ _ c.args.journal.now _ c.new-records.ensures c.last-last.ensures) _ c.in-Err.ensures _ refl
 
 pub returns-in-Ok : goal.returns-in-Ok
 returns-in-Ok c =
     let n = c.in-Ok.count in
-    let few = list_few c.args.h c.args.keys.now c.args.values.now c.args.journal.now _ _ _ c.requires.0 refl refl (last_is c.new-records.ensures c.last-last.ensures) _ c.in-Ok.ensures n refl in
+    let few = list_few c.args.h c.args.keys.now c.args.values.now c.args.journal.now _ _ _ c.requires.0 refl refl (last_is c.args.h.low c.args.h.journal.used _ _ c.args.journal.now _ c.new-records.ensures c.last-last.ensures) _ c.in-Ok.ensures n refl in
     called
-    (list_text_lem c.args.h c.args.keys.now c.args.values.now c.args.journal.now _ _ _ c.requires.0 refl refl (last_is c.new-records.ensures c.last-last.ensures) _ c.in-Ok.ensures n refl)
+    (list_text_lem c.args.h c.args.keys.now c.args.values.now c.args.journal.now _ _ _ c.requires.0 refl refl (last_is c.args.h.low c.args.h.journal.used _ _ c.args.journal.now _ c.new-records.ensures c.last-last.ensures) _ c.in-Ok.ensures n refl)
     (whole c.args.out.now c.last-last.result n c.requires.1 (omega arith) few _ c.line-time.ensures _ c.line-head.ensures c.rows.ensures)

@@ -2,14 +2,14 @@
 use Rattle.std.specs.Prelude.{refl, None}
 use Rattle.rules.specs.Calls.{Update}
 use Rattle.std.proofs.Common.{rules}
-use Rattle.journal_store.specs.Laws.{has_room, wrote}
+use Rattle.journal_store.specs.Laws.{told_room, wrote}
 use Rattle.journal_store.specs.LentLaws.{told_by}
 use Rattle.journal_store.proofs.update.update.Goals as goal
 
 pub put-head-requires : goal.put-head-requires
 put-head-requires c =
     let a = c.args in
-    has_room (told_by a.h a.keys.now a.values.now a.journal.now (λ _. None) (Update a.n a.k a.e) c.new.result c.and_then-answer.result c.new.ensures (search rules))
+    told_room (told_by a.h a.keys.now a.values.now a.journal.now (λ _. None) (Update a.n a.k a.e) c.new.result c.and_then-answer.result c.new.ensures (search rules))
     (rw c.in-Ok.is refl)
 
 pub returns : goal.returns
