@@ -11,7 +11,8 @@ const TEN: u64 = 10;
 // The byte of the digit 0; the other nine follow it.
 const ZERO: u8 = b'0';
 
-// Writes n in decimal at a place of a lent buffer and answers the next place.
+// Writes n in decimal at a place of a lent buffer and answers the next place. It calls itself and writes the remainder behind: the form that the rule book
+// names.
 pub fn print(out: &mut [u8], at: usize, n: u64) -> usize
     requires { at + length (digits n) ≤ length out.old }
     ensures { Printed out.old at n result out.new }

@@ -19,6 +19,7 @@ impl Base {
     // How many rows a base has at the most.
     pub const ROWS: usize = 512;
 
+    // No row is used: the constructor for the empty store, which the rule book names.
     pub fn empty() -> Self
         ensures { result ≡ empty_base }
     {
@@ -49,6 +50,7 @@ impl Journal {
     // The number that no transaction has: next stays there.
     pub const NO_NUMBER: u32 = 4294967295;
 
+    // No record is used: the constructor for the empty store, which the rule book names.
     pub fn empty() -> Self
         ensures { result ≡ empty_journal }
     {

@@ -32,7 +32,7 @@ pub struct Head {
 }
 
 impl Head {
-    // The head of an empty store.
+    // The head of an empty store: the constructor that the rule book names.
     pub fn empty() -> Self
         ensures { result ≡ empty_head }
     {

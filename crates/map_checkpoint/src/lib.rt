@@ -10,7 +10,7 @@ ghost use Rattle.map_store.specs.CallContracts.{Checkpointed};
 use answer::{Outcome, Refusal};
 use map_store::MapHead;
 
-// A checkpoint at t: low becomes t. Kept are the versions after t and, for each key, its newest at or before t.
+// A checkpoint at t, which writes the columns, so that the shape is tested and no `Store` made. Low becomes t. Kept are the versions after t and, for each key, its newest at or before t.
 pub fn checkpoint(
     h: MapHead,
     keys: &mut [u32],

@@ -90,7 +90,8 @@ impl Written<'_> {
         }
     }
 
-    // Rule 3.8: a version at t for each key, in order of first update. Answers how many versions are used then.
+    // Rule 3.8: a version at t for each key, in order of first update. Answers how many versions are used then. The columns come one by one, as the C
+    // interface lends them.
     fn stamp(
         self,
         keys: &mut [u32],
@@ -116,7 +117,7 @@ impl Written<'_> {
     }
 }
 
-// Commits a running transaction at t.
+// Commits a running transaction at t. The columns are written, so that the shape is tested and no `Store` made, which lends them to be read.
 pub fn commit(
     h: MapHead,
     keys: &mut [u32],

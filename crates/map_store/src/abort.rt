@@ -7,7 +7,7 @@ ghost use Rattle.map_store.specs.CallContracts.{Answered};
 use crate::MapHead;
 use answer::{Outcome, Refusal};
 
-// Ends a running transaction; its updates have no effect.
+// Ends a running transaction; its updates have no effect. No column is read, so that the shape is tested and no `Store` made.
 pub fn abort(
     h: MapHead,
     keys: &[u32],

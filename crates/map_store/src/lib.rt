@@ -39,7 +39,7 @@ impl MapHead {
     // From here on there are no transaction numbers.
     pub const NO_NUMBER: u32 = 4294967295;
 
-    // The head of an empty store.
+    // The head of an empty store: the constructor that the rule book names.
     pub fn empty() -> Self
         ensures { result ≡ empty_head }
     {

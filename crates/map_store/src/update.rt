@@ -22,6 +22,7 @@ fn is_full(s: Slot, k: u32) -> bool
 }
 
 // Notes an effect of a running transaction on a key. The slots are copied once, changed at one place and returned within the head.
+// No column is read, so that the shape is tested and no `Store` made.
 pub fn update(
     h: MapHead,
     keys: &[u32],

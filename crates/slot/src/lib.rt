@@ -121,7 +121,7 @@ impl Slots {
     // How many transactions can run.
     pub const SLOTS: usize = 8;
 
-    // All slots free.
+    // All slots free: the constructor for the empty store, which the rule book names.
     pub fn empty() -> Self
         ensures { result ≡ empty_slots }
     {
