@@ -1,8 +1,9 @@
 -- How a call's parts make its contract: what was decided on the meaning, then done to the cells if it was accepted. Assumes nothing.
-use Rattle.std.specs.Prelude.{◌≡◌, refl, Bool, true, false, cond, ℕ, eqb, length, None, Option, Some, Err, Ok}
-use Rattle.std.proofs.Common.{sym, ap, ◌∙◌}
+use Rattle.std.specs.Prelude.{◌≡◌, refl, Bool, true, false, cond, ℕ, ◌<◌, eqb, length, None, Option, Some, Err, Ok}
+use Rattle.std.proofs.Common.{sym, ap, ◌∙◌, eqb-true}
+use Rattle.rules.specs.Limits.{numbers_end}
 use Rattle.rules.specs.Value.{Value}
-use Rattle.rules.specs.Calls.{Call}
+use Rattle.rules.specs.Calls.{Call, Begin}
 use Rattle.answer.specs.declared.Refusal.{Refusal}
 use Rattle.answer.specs.declared.Refusal.TheVariants.{BadShape}
 use Rattle.answer.specs.declared.Outcome.{Outcome}
@@ -20,7 +21,7 @@ use Rattle.map_store.specs.Meaning.{MapStore, map_answer, gives}
 use Rattle.map_store.specs.Shape.{lengths, is_shaped, room_of, meaning}
 use Rattle.map_store.specs.Heads.{head_after}
 use Rattle.map_store.specs.CallContracts.{shaped_number, number, Decided, Answered}
-use Rattle.map_store.specs.Tests.{say}
+use Rattle.map_store.specs.Tests.{say, begin_numbered}
 
 -- the slot that was found is the place of the transaction, and its rows are in order
 module _ (h : Slots) (n : ℕ) {f : Option ℕ} (e : f ≡ slot_of h n) where
@@ -51,6 +52,9 @@ module _ (cells means : ℕ) (v : Value) (e : cells ≡ means) (a : Reply) (d : 
   replied = d ∙ say means cells v e
 
   module _ (accepted : Bool) (y : accepted ≡ eqb a.number 0) where
+    pub is_accepted : accepted ≡ true → means ≡ 0
+    is_accepted f = eqb-true means 0 (sym (ap (λ (r : Reply). eqb r.number 0) d) ∙ sym y ∙ f)
+
     pub changed : {A : Type 0} (new old x : A) → x ≡ cond accepted new old → x ≡ after cells new old
     changed new old x p =
         p ∙ ap (λ (b : Bool). cond b new old) (y ∙ ap (λ (r : Reply). eqb r.number 0) d ∙ ap (λ (n : ℕ). eqb n 0) (sym e))
@@ -86,3 +90,8 @@ module _ {c : Call} {h : MapHead} {cs : Columns} where
         → Decided c (room_of (length cs.keys)) (meaning h cs) (accepted None) → head ≡ head_after c h
         → Answered c h cs (of_done o.answer) o.head
     carried_out o head r d e = rw (r.0, r.1) (answered d {accepted = true} refl e)
+
+-- an accepted begin has a number to give
+pub begin_next : {t room : ℕ} {m : MapStore} {a : Reply} → Decided (Begin t) room m a → {accepted : Bool} → accepted ≡ eqb a.number 0
+    → accepted ≡ true → m.next < numbers_end
+begin_next {t} {room} {m} {a} d {accepted} y f = begin_numbered m t (is_accepted _ _ (gives (Begin t) m) refl a d.reply accepted y f)

@@ -1,11 +1,11 @@
 -- What the tests of a call, made in section 6's order, let it answer: on any store, one law for each way out. Assumes nothing.
-use Rattle.std.specs.Prelude.{◌≡◌, Bool, true, false, not, ◌||◌, List, ℕ, ◌+◌, ◌<◌, ◌≤◌, ltb, length}
-use Rattle.std.proofs.Common.{sym, ap, ◌∙◌, lt-ltb, le-ltb, le-leb, eq-eqb, ne_eqb}
+use Rattle.std.specs.Prelude.{◌≡◌, Bool, true, false, cond, not, ◌||◌, List, ℕ, ◌+◌, ◌<◌, ◌≤◌, leb, ltb, length}
+use Rattle.std.proofs.Common.{sym, ap, ◌∙◌, arith, lt-ltb, le-ltb, le-leb, eq-eqb, ne_eqb, leb-false}
 use Rattle.std.proofs.lemmas.Bool.{lt-leb, not-true, not-false}
 use Rattle.rules.specs.Limits.{most_running, most_keys, numbers_end}
 use Rattle.rules.specs.Value.{Value}
 use Rattle.rules.specs.declared.Effect.{Effect}
-use Rattle.rules.specs.Passed.{fitting}
+use Rattle.rules.specs.Passed.{passed, fitting}
 use Rattle.rules.specs.Calls.{Call, Begin, Update, Abort, Commit, with_room}
 use Rattle.answer.specs.Reply.{accepted, told}
 use Rattle.slot.specs.Places.{Note, free, taken, has_key, place_of, occupied, holds}
@@ -55,6 +55,17 @@ module _ (m : MapStore) (t : ℕ) where
 
     pub lookup_time : (k ≡ 0 → ⊥) → lookup_refusal k t m ≡ time_refusal t m 0
     lookup_time z = rw (ne_eqb k 0 z)
+
+  -- an accepted begin has a number to give
+  pub begin_numbered : map_refusal (Begin t) m ≡ 0 → m.next < numbers_end
+  begin_numbered e =
+      let numbers : ℕ = cond (leb numbers_end m.next) 7 0 in
+      let many : ℕ = cond (leb most_running (occupied m.places)) 6 numbers in
+      let later : ℕ = cond (ltb m.last t) 5 many in
+      let e1 : later ≡ 0 = (passed (ltb t m.low) 4 later (omega arith) e).1 in
+      let e2 : many ≡ 0 = (passed (ltb m.last t) 5 many (omega arith) e1).1 in
+      let e3 : numbers ≡ 0 = (passed (leb most_running (occupied m.places)) 6 numbers (omega arith) e2).1 in
+      leb-false numbers_end m.next (passed (leb numbers_end m.next) 7 0 (omega arith) e3).0
 
 module _ (m : MapStore) (n k : ℕ) where
   pub read_unknown : place_of n m.places ≡ free → read_refusal n k m ≡ 2
