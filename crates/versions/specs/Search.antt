@@ -1,5 +1,10 @@
 -- How a search passes rows that do not count. Assumes nothing.
-use Rattle.std.specs.Prelude.{◌≡◌, List, ℕ, ◌≤◌, ◌<◌, get_or}
+use Rattle.std.specs.Prelude.{◌≡◌, Bool, List, ℕ, ◌≤◌, ◌<◌, get_or}
+use Rattle.std.specs.List.{list_any}
+
+-- some cell passes the test
+abbrev pub some : (ℕ → Bool) → List ℕ → Bool
+some = list_any
 
 -- no row from m up to r, of n, has k
 pub record Passed (k : ℕ) (ks : List ℕ) (m n r : ℕ) : Type 0 where

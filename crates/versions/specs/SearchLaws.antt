@@ -1,17 +1,34 @@
 -- Rows that a search passes change nothing of what it finds. Assumes nothing.
-use Rattle.std.specs.Prelude.{◌≡◌, refl, Bool, false, List, [], ◌∷◌, ℕ, zero, suc, ◌+◌, ◌-◌, ◌≤◌, ◌<◌, eqb, ltb, length, get_or, take, drop}
-use Rattle.std.proofs.Common.{arith, ne_eqb, ltb-true, ltb-false, le-ltb, length-drop, get_or-take, get_or-drop, length-take-le}
+use Rattle.std.specs.Prelude.{◌≡◌, refl, Bool, true, false, ◌||◌, List, [], ◌∷◌, ℕ, zero, suc, ◌+◌, ◌-◌, ◌≤◌, ◌<◌, eqb, ltb, length, get_or, take, drop}
+use Rattle.std.proofs.Common.{sym, ◌∙◌, arith, add-one, ne_eqb, ltb-true, ltb-false, le-ltb, length-drop, drop-cons, get_or-take, get_or-drop, length-take-le}
 use Rattle.std.proofs.lemmas.Bool.{eqb-false}
-use Rattle.rules.specs.Bools.{split, or_none_left, or_none_right, and_false}
+use Rattle.std.proofs.Math.Seq.{drop-length}
+use Rattle.rules.specs.Bools.{split, or_left, or_right, or_none_left, or_none_right, and_false, or_false}
 use Rattle.versions.specs.Versions.{Columns, versions_of, newest, later}
 use Rattle.std.specs.List.{list_any}
-use Rattle.versions.specs.Search.{Passed, Early}
+use Rattle.versions.specs.Search.{some, Passed, Early}
 
 -- where no cell passes the test, none of them does
 not_some : (p : ℕ → Bool) (xs : List ℕ) → list_any p xs ≡ false → (j : ℕ) → j < length xs → p (get_or xs j 0) ≡ false
 not_some p [] h j l = absurd (omega arith)
 not_some p (x ∷ xs) h zero l = or_none_left (p x) (list_any p xs) h
 not_some p (x ∷ xs) h (suc j) l = not_some p xs (or_none_right (p x) (list_any p xs) h) j (omega arith)
+
+module _ (p : ℕ → Bool) (cells : List ℕ) where
+  -- one cell more is looked at: met or not, what is left completes to the answer
+  module _ (i : ℕ) (l : i < length cells) (met : Bool) (h : (met || some p (drop i cells)) ≡ some p cells) where
+    left : (met || (p (get_or cells i 0) || some p (drop (suc i) cells))) ≡ some p cells
+    left = rw (drop-cons cells i 0 l) at h
+
+    pub met_here : p (get_or cells i 0) ≡ true → (true || some p (drop (i + 1) cells)) ≡ some p cells
+    met_here e =
+        sym (or_right met (p (get_or cells i 0) || some p (drop (suc i) cells)) (or_left (p (get_or cells i 0)) (some p (drop (suc i) cells)) e)) ∙ left
+
+    pub not_here : p (get_or cells i 0) ≡ false → (met || some p (drop (i + 1) cells)) ≡ some p cells
+    not_here e = rw add-one (rw e at left)
+
+  pub all_met : (met : Bool) → (met || some p (drop (length cells) cells)) ≡ some p cells → met ≡ some p cells
+  all_met met h = rw (drop-length cells, or_false met) at h
 
 -- none of the cells from i up to e passes the test
 pub none_from : (p : ℕ → Bool) (i e : ℕ) (cells : List ℕ) → e ≤ length cells → list_any p (take (e - i) (drop i cells)) ≡ false
