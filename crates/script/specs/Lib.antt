@@ -4,6 +4,7 @@ pub mod Play
 pub mod Tally
 pub mod Run
 pub mod Rows
--- A law of it, and that no second answer satisfies a contract.
+-- Laws of it, and that no second answer satisfies a contract.
+pub mod WordLaws
 pub mod RunLaws
 pub mod Unique

@@ -1,11 +1,10 @@
 -- A line of the script: what each byte of it adds to what was read, and the line that was read at its end. Assumes nothing.
 use Rattle.std.specs.Prelude.{ℕ, zero, suc, ◌+◌, ◌-◌, ◌*◌, ◌%◌, ◌^◌, Bool, true, false, cond, List, length, replicate, ◌==◌, nat_le, nat_lt, slice_index, slice_set}
-use denote.Enum.Bare.{sameb}
 use Rattle.script.specs.declared.line.Call.{Call}
 use Rattle.script.specs.declared.line.Line.{Line}
 use Rattle.script.specs.declared.line.Word.{Word}
 use Rattle.script.specs.declared.line.Word.TheVariants as words
-use Rattle.script.specs.contracts.line.Word.{the_type}
+use Rattle.script.specs.contracts.line.WordPartialEq.TheImpl as same
 use Rattle.script.specs.declared.line.Reading.{Reading}
 
 -- how many numbers a line has
@@ -56,7 +55,8 @@ abbrev pub spelling : ℕ → ℕ → ℕ → ℕ
 spelling a b c = (a * 256 + b) * 256 + c
 
 -- the word that a number spells, of which 0 spells none: gin, ign, add, ort, mit, ead, kup, ist, int and ver are the calls, ore and ill what else is
--- done to a store, ach, ain and hen tell of the lines behind, and oth, nal, map, gle, row and ong the stores that they are for
+-- done to a store, ach, ain and hen tell of the lines behind, and oth, nal, map, gle, row and ong the stores that they are for; any other word keeps
+-- its number
 unfoldable pub word_of : ℕ → Word
 word_of w =
     cond (w == 0) words.Missing
@@ -81,7 +81,7 @@ word_of w =
     (cond (w == spelling 103 108 101) words.Single
     (cond (w == spelling 114 111 119) words.Narrow
     (cond (w == spelling 111 110 103) words.Long
-    words.Other)))))))))))))))))))))
+    (words.Other w))))))))))))))))))))))
 
 -- both, journal, map, single, narrow, long
 abbrev pub names_stores : Word → Bool
@@ -95,7 +95,7 @@ names_stores _ = false
 
 -- one word is another
 abbrev pub is_word : Word → Word → Bool
-is_word = sameb the_type
+is_word = (same.ghosts).eq
 
 -- what was read asks: the numbers whole, and their last 32 bits
 abbrev pub call_of : Reading → Call

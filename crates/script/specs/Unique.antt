@@ -8,7 +8,7 @@ use Rattle.script.specs.Line.{word_of}
 use Rattle.script.specs.Run.{fresh, goes, read, judged_by}
 use Rattle.script.specs.Rows.{most_lent, told}
 
--- a run at first, whether a line is left, and after a line and its answer
+-- a run at first, of whatever spells a word, whether a line is left, and after a line and its answer
 pub run_unique : (w : Word) {r r' : Run} → r ≡ fresh w → r' ≡ fresh w → r ≡ r'
 run_unique w p q = p ∙ sym q
 
@@ -29,6 +29,9 @@ pub told_unique : (answer : Answer) (keys values : List ℕ) (row : ℕ) {r r' :
     → r' ≡ told answer keys values row → r ≡ r'
 told_unique answer keys values row p q = p ∙ sym q
 
--- the word of a number
+-- the word that something spells, and that of a number
+pub spells_unique : {A : Type 0} (word : A → Word) (x : A) {r r' : Word} → r ≡ word x → r' ≡ word x → r ≡ r'
+spells_unique word x p q = p ∙ sym q
+
 pub word_unique : (letters : ℕ) {r r' : Word} → r ≡ word_of letters → r' ≡ word_of letters → r ≡ r'
 word_unique letters p q = p ∙ sym q

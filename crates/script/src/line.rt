@@ -1,12 +1,13 @@
 // A line of the script, read byte by byte.
 ghost use Rattle.std.specs.Prelude.{◌≡◌, false};
+ghost use Rattle.script.specs.declared.line.Word.{Word};
 ghost use Rattle.script.specs.Line.{word_of, blank, spelt, noted, counted, moved_to, closed, taken, call_of, names_stores, line_of, line_at};
 
 use std::num::{wrapping_add_u64, wrapping_add_usize};
 
 // What a line's word says. First the calls; then what else can be done to a store, to begin with an empty one and to put bytes into its journal; then
 // what a line says of the lines behind it: which are repeated, for which x they are, and for which stores: for the journal store and the map store,
-// for one of the two, or for a journal store with less room or all the room there can be. Last any other word, and none.
+// for one of the two, or for a journal store with less room or all the room there can be. Last any other word, by its letters, and none.
 #[derive(Clone, Copy, Debug, PartialEq, Eq)]
 pub enum Word {
     Begin,
@@ -30,8 +31,16 @@ pub enum Word {
     Single,
     Narrow,
     Long,
-    Other,
+    Other(u32),
     Missing,
+}
+
+// What spells a word: the word itself, or the number of its last three letters.
+pub trait Spells {
+    ghost word: { Self → Word };
+
+    fn word(self) -> Word
+        ensures { result ≡ word self };
 }
 
 // What a line asks of a store: a word, and up to three numbers, as times or counts and as numbers of transactions, keys and values.
@@ -110,8 +119,24 @@ impl From<u32> for Word {
             0x676c65 => Word::Single,
             0x726f77 => Word::Narrow,
             0x6f6e67 => Word::Long,
-            _ => Word::Other,
+            _ => Word::Other(letters),
         }
+    }
+}
+
+impl Spells for Word {
+    ghost word = { λ w. w };
+
+    fn word(self) -> Word {
+        self
+    }
+}
+
+impl Spells for u32 {
+    ghost word = { word_of };
+
+    fn word(self) -> Word {
+        Word::from(self)
     }
 }
 

@@ -3,7 +3,7 @@ ghost use Rattle.std.specs.Prelude.{◌≡◌};
 ghost use Rattle.script.specs.Run.{fresh, goes, read, judged_by};
 
 use crate::line;
-use crate::line::{Call, Line, Word};
+use crate::line::{Call, Line, Spells, Word};
 use crate::play::Play;
 use crate::tally::Tally;
 use answer::shown::Answer;
@@ -35,11 +35,11 @@ impl Run {
     // More turns than a script makes.
     const TURNS: u32 = 1000000;
 
-    pub fn new(store: Word) -> Self
-        ensures { result ≡ fresh store }
+    pub fn new<W: Spells>(store: W) -> Self
+        ensures { result ≡ fresh (W.word store) }
     {
         Run {
-            play: Play::new(store),
+            play: Play::new(store.word()),
             line: line::empty(),
             tally: Tally::new(),
             turns: 0,
