@@ -1,6 +1,9 @@
 // A run of the script on a store.
-ghost use Rattle.std.specs.Prelude.{◌≡◌};
+ghost use Rattle.std.specs.Prelude.{◌≡◌, ℕ};
+ghost use Rattle.answer.specs.declared.shown.Answer.{Answer};
+ghost use Rattle.script.specs.declared.line.Call.{Call};
 ghost use Rattle.script.specs.Run.{fresh, goes, read, judged_by};
+ghost use Rattle.script.specs.Follow.{Follows};
 
 use crate::line;
 use crate::line::{Call, Line, Spells, Word};
@@ -15,11 +18,19 @@ pub const SCRIPT: usize = 32768;
 
 // A store that a trial makes calls of.
 pub trait Store {
+    // What a call may make of a store, and answer.
+    ghost turns: { Self → Call → Self → Answer → Type 0 };
+
+    // What may be the sum of one.
+    ghost sums: { Self → ℕ → Type 0 };
+
     // What a line asks is done, and answered.
-    fn turn(&mut self, call: Call) -> Answer;
+    fn turn(&mut self, call: Call) -> Answer
+        ensures { turns self.old call self.new result };
 
     // A sum of the head and all cells.
-    fn sum(&self) -> u64;
+    fn sum(&self) -> u64
+        ensures { sums self.now result };
 }
 
 // Where it stands, the line that was read last, what came of the lines before it, and how many were read.
@@ -83,8 +94,10 @@ impl Run {
     }
 }
 
-// The script on a store, for which the lines behind its word are. A line says which is next, so that no `for` counts them.
-pub fn follow<W: Write, S: Store>(out: &mut W, script: &[u8], word: Word, store: &mut S) {
+// The script on a store, for which the lines behind its word are: where the run ends. A line says which is next, so that no `for` counts them.
+pub fn follow<W: Write, S: Store>(out: &mut W, script: &[u8], word: Word, store: &mut S) -> Run
+    ensures { Follows S.turns S.sums script.now (fresh word) store.old result store.new }
+{
     let mut run = Run::new(word);
     while run.goes(script) {
         run = run.read(script);
@@ -94,4 +107,5 @@ pub fn follow<W: Write, S: Store>(out: &mut W, script: &[u8], word: Word, store:
         }
     }
     run.ended(out);
+    run
 }

@@ -1,4 +1,6 @@
 // The script's calls on the journal store. Those on the map store have other exported names and other columns: what both share is `script::run::follow`.
+ghost use Rattle.std.specs.Prelude.{⊤};
+
 use answer::shown::Answer;
 use journal::{Base, Journal};
 use journal_store::Head;
@@ -34,6 +36,11 @@ impl<const ROWS: usize, const BYTES: usize> Lent<ROWS, BYTES> {
 }
 
 impl<const ROWS: usize, const BYTES: usize> Store for Lent<ROWS, BYTES> {
+    // What the calls make of it is compared with the script when it runs, line by line, and no clause says it.
+    ghost turns = { λ _ _ _ _. ⊤ };
+
+    ghost sums = { λ _ _. ⊤ };
+
     fn turn(&mut self, call: Call) -> Answer {
         let JournalResult { head, answer } = turn(
             self.head,
