@@ -2,7 +2,7 @@
 #![tactic(auto)]
 
 ghost use Rattle.std.specs.Prelude.{◌≡◌};
-ghost use Rattle.sums.specs.Sums.{more, three as three_more, Totals, filled};
+ghost use Rattle.sums.specs.Sums.{more, three as three_more, total, Totals, filled};
 
 // A sum with one number more. Its bits turn round and none is lost, so that sums which differ in one number differ.
 fn more(sum: u64, x: u64) -> u64
@@ -27,7 +27,7 @@ pub fn fill(bytes: &mut [u8], from: usize, to: usize, value: u8)
     }
 }
 
-// A sum with every cell of a column more, of whatever width.
+// A sum with every cell of a column more, of whatever width: `of_bytes`, `of_column` and `of_times` say the sum itself where the cell's type is known.
 pub fn of<T: Copy + Into<u64>>(sum: u64, column: &[T]) -> u64
     ensures { Totals T.converts sum column.now result }
 {
@@ -36,4 +36,23 @@ pub fn of<T: Copy + Into<u64>>(sum: u64, column: &[T]) -> u64
         s = more(s, (*x).into());
     }
     s
+}
+
+// A sum with every byte of a column more; the others likewise with wider cells.
+pub fn of_bytes(sum: u64, column: &[u8]) -> u64
+    ensures { result ≡ total sum column.now }
+{
+    of::<u8>(sum, column)
+}
+
+pub fn of_column(sum: u64, column: &[u32]) -> u64
+    ensures { result ≡ total sum column.now }
+{
+    of::<u32>(sum, column)
+}
+
+pub fn of_times(sum: u64, column: &[u64]) -> u64
+    ensures { result ≡ total sum column.now }
+{
+    of::<u64>(sum, column)
 }

@@ -61,8 +61,8 @@ impl<const ROWS: usize, const BYTES: usize> Store for Lent<ROWS, BYTES> {
             h.base.rows as u64,
             h.journal.used as u64,
         );
-        sums::of(
-            sums::of(sums::of(head, &self.keys), &self.values),
+        sums::of_bytes(
+            sums::of_column(sums::of_column(head, &self.keys), &self.values),
             &self.bytes,
         )
     }

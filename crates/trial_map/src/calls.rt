@@ -58,11 +58,11 @@ impl Store for Lent {
     fn sum(&self) -> u64 {
         let h = self.head;
         let head = sums::three(h.low, h.last, h.next as u64, h.used as u64);
-        let versions = sums::of(
-            sums::of(sums::of(head, &self.keys), &self.times),
+        let versions = sums::of_column(
+            sums::of_times(sums::of_column(head, &self.keys), &self.times),
             &self.values,
         );
-        let columns = sums::of(versions, &self.marks);
+        let columns = sums::of_bytes(versions, &self.marks);
         let occupied = h.slots.occupied as u64;
         slots_sum(sums::three(columns, occupied, 0, 0), h.slots)
     }
@@ -157,8 +157,8 @@ fn slot_sum(sum: u64, s: Slot) -> u64 {
     let values = s.values;
     let marks = s.marks;
     let head = sums::three(sum, s.number as u64, s.snapshot, s.count as u64);
-    let rows = sums::of(sums::of(head, &keys), &values);
-    sums::of(rows, &marks)
+    let rows = sums::of_column(sums::of_column(head, &keys), &values);
+    sums::of_bytes(rows, &marks)
 }
 
 // The eight slots added to a sum.
