@@ -1,12 +1,13 @@
 -- The laws of answers: no refusal has number 0, what is there after a refused and after an accepted call, and an answer is determined by its
 -- number and value. Assumes nothing.
-use Rattle.std.specs.Prelude.{◌≡◌, refl, false, cond, [], ◌∷◌, ℕ, ◌-◌, eqb, get_or, Result, Some, None, Ok, Err}
+use Rattle.std.specs.Prelude.{◌≡◌, refl, false, cond, [], ◌∷◌, ℕ, ◌-◌, eqb, get_or, Result, Some, None, Ok, Err, is_ok}
+use Rattle.std.specs.Result.{result_unwrap_or}
 use Rattle.std.proofs.Common.{sym, ap, ◌∙◌}
 use Rattle.rules.specs.Value.{Value}
 use Rattle.rules.specs.Effects.{or_zero}
 use Rattle.answer.specs.declared.Refusal.{Refusal}
 use Rattle.answer.specs.declared.Refusal.TheVariants.{BadShape, UnknownTransaction, BadKey, TooOld, Future, TooMany, NoNumbers, KeysFull, Held, NotLater, Conflict, NoRoom, BadRecord}
-use Rattle.answer.specs.Reply.{Reply, number_of, refused, of_result, of_begun, of_got, of_done, of_listed, after}
+use Rattle.answer.specs.Reply.{Reply, number_of, refused, of_result, of_begun, begun_number, of_got, of_done, of_listed, after}
 
 -- the refusal that a number and a place name
 abbrev named : Reply → Refusal
@@ -38,6 +39,16 @@ known (BadRecord i) = record { some = refl; back = refl }
 -- no refusal has number 0
 pub refused_some : (x : Refusal) → eqb (number_of x) 0 ≡ false
 refused_some x = (known x).some
+
+-- a call is accepted exactly if its number is 0
+pub accepted_zero : {A : Type 0} (given : A → Value) (a : Result A Refusal) → is_ok a ≡ eqb (of_result given a).number 0
+accepted_zero given (Ok x) = refl
+accepted_zero given (Err x) = sym (refused_some x)
+
+-- the transaction number, or 0, is what `unwrap_or(0)` of the library gives
+pub begun_or_zero : (a : Result ℕ Refusal) → result_unwrap_or a 0 ≡ begun_number a
+begun_or_zero (Ok n) = refl
+begun_or_zero (Err x) = refl
 
 -- a refused call leaves what was there
 pub after_refused {ℓ} : {A : Type ℓ} (x : Refusal) (n : ℕ) (new old : A) → n ≡ number_of x → old ≡ after n new old

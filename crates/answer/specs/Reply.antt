@@ -63,6 +63,11 @@ of_result given (Err x) = refused x
 abbrev pub of_begun : Result ℕ Refusal → Reply
 of_begun = of_result (λ n. Some n)
 
+-- the transaction number, 0 where the call was refused
+abbrev pub begun_number : Result ℕ Refusal → ℕ
+begun_number (Ok n) = n
+begun_number (Err x) = 0
+
 -- read and lookup give the value or absent
 abbrev pub of_got : Result Value Refusal → Reply
 of_got = of_result (λ v. v)
