@@ -7,6 +7,7 @@ use Rattle.rules.specs.declared.Effect.{Effect}
 use Rattle.rules.specs.Kinds.{is_commit, is_update}
 use Rattle.rules.specs.Effects.{or_zero, applied, joined, is_add, mark_of, amount_of, effect_by, effect_of}
 
+-- absent counting as 0, which `unwrap_or(0)` of the library gives (`zero_or`)
 pub or_zero_unique : (v : Value) (a b : ℕ) → a ≡ or_zero v → b ≡ or_zero v → a ≡ b
 or_zero_unique v a b p q = p ∙ sym q
 
