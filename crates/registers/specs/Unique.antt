@@ -3,8 +3,10 @@ use Rattle.std.specs.Prelude.{◌≡◌, List, ℕ}
 use Rattle.std.proofs.Common.{sym, ap, ap₂, ◌∙◌}
 use Rattle.rules.specs.declared.Effect.TheVariants.{Assign, Add}
 use Rattle.rules.specs.Calls.{Call, Begin, Update, Abort, Commit}
+use Rattle.rules.specs.Value.{Value}
+use Rattle.answer.specs.declared.Outcome.{Outcome}
 use Rattle.answer.specs.declared.shown.Answer.{Answer}
-use Rattle.answer.specs.Reply.{Reply}
+use Rattle.answer.specs.Reply.{Reply, of_result}
 use Rattle.answer.specs.Shown.{answer_of}
 use Rattle.journal_store.specs.declared.Head.{Head}
 use Rattle.journal_store.specs.Shape as journal_shape
@@ -35,6 +37,17 @@ journal_same p q e f = ap₂ (λ (h : Head) (x : Answer). record { head = h; ans
 map_same : {P Q : Reply → MapHead → Type 0} {a b : MapResult} (p : Returns P a.head a.answer) (q : Returns Q b.head b.answer) → a.head ≡ b.head
     → p.reply ≡ q.reply → a ≡ b
 map_same p q e f = ap₂ (λ (h : MapHead) (x : Answer). record { head = h; answer = x }) e (p.shows ∙ ap answer_of f ∙ sym q.shows)
+
+-- JournalResult::from and MapResult::from, whatever it is that an accepted call gives: the head, and the answer
+pub journal_result_unique : {T : Type 0} (given : T → Value) (o : Outcome Head T) (a b : JournalResult)
+    → (a.head ≡ o.head) × (a.answer ≡ answer_of (of_result given o.answer)) → (b.head ≡ o.head) × (b.answer ≡ answer_of (of_result given o.answer))
+    → a ≡ b
+journal_result_unique given o a b p q = ap₂ (λ (h : Head) (x : Answer). record { head = h; answer = x }) (p.0 ∙ sym q.0) (p.1 ∙ sym q.1)
+
+pub map_result_unique : {T : Type 0} (given : T → Value) (o : Outcome MapHead T) (a b : MapResult)
+    → (a.head ≡ o.head) × (a.answer ≡ answer_of (of_result given o.answer)) → (b.head ≡ o.head) × (b.answer ≡ answer_of (of_result given o.answer))
+    → a ≡ b
+map_result_unique given o a b p q = ap₂ (λ (h : MapHead) (x : Answer). record { head = h; answer = x }) (p.0 ∙ sym q.0) (p.1 ∙ sym q.1)
 
 pub journal_empty_unique : (a b : Head) → a ≡ journal_shape.empty_head → b ≡ journal_shape.empty_head → a ≡ b
 journal_empty_unique a b p q = p ∙ sym q
