@@ -17,6 +17,11 @@ use Rattle.journal_store.specs.declared.Head.{Head}
 use Rattle.journal_store.specs.Shape.{is_shaped, room_of, meaning, row_room}
 use Rattle.journal_store.specs.Heads.{grown, checkpoint_head, recovered_head}
 
+-- an accepted record is written behind the used ones and counted; otherwise nothing changes
+pub record Put (h : Head) (j : List ℕ) (accepted : Bool) (r : Record) (head : Head) (exit : List ℕ) : Type 0 where
+  pub headed : head ≡ cond accepted (grown h) h
+  pub cells : exit ≡ cond accepted (appended j h.journal.used r) j
+
 -- what a store of good shape with so much room answers
 pub record Decided (c : Call) (room : ℕ) (s : Store) (a : Reply) : Type 0 where
   pub reply : a ≡ told (answer room c s) (gives c s)

@@ -2,6 +2,7 @@
 use Rattle.std.specs.Prelude.{◌≡◌, refl, Bool, true, false, cond, List, ◌++◌, ℕ, ◌+◌, ◌*◌, ◌≤◌, ◌<◌, eqb, length, drop, Some, None, Option}
 use Rattle.std.proofs.Common.{sym, ap, ◌∙◌, arith, le-leb, eqb-true}
 use Rattle.std.proofs.lemmas.Bool.{lt-leb}
+use Rattle.rules.specs.declared.Record.{Record}
 use Rattle.rules.specs.Bools.{split}
 use Rattle.rules.specs.Kinds.{record_size}
 use Rattle.rules.specs.Passed.{fitting}
@@ -19,7 +20,7 @@ use Rattle.compact.specs.Compact.{compacted}
 use Rattle.journal_store.specs.declared.Head.{Head}
 use Rattle.journal_store.specs.Shape.{is_shaped, room_of, meaning, row_room}
 use Rattle.journal_store.specs.Heads.{grown, checkpoint_head, recovered_head}
-use Rattle.journal_store.specs.CallContracts.{Decided, number, Told, Wrote, shaped_reply, list_decided, is_list_shaped, list_number, ListedBy, ListedOf, checkpoint_number, Checkpointed, is_recoverable, surviving, recover_reply, Recovered}
+use Rattle.journal_store.specs.CallContracts.{Put, Decided, number, Told, Wrote, shaped_reply, list_decided, is_list_shaped, list_number, ListedBy, ListedOf, checkpoint_number, Checkpointed, is_recoverable, surviving, recover_reply, Recovered}
 
 -- an accepted call has the room that it needs
 pub room_left : (room : ℕ) (c : Call) (s : Store) → answer room c s ≡ 0 → length s.records + need c s ≤ room
@@ -78,11 +79,29 @@ module _ {c : Call} {h : Head} {keys values j : List ℕ} where
           record { reply = w.reply; headed = rw e; cells = rw e }
 
       -- an accepted one writes its record
-      pub wrote : a.number ≡ 0 → {head : Head} {exit : List ℕ} → head ≡ grown h
+      pub written : a.number ≡ 0 → {head : Head} {exit : List ℕ} → head ≡ grown h
           → exit ≡ appended j h.journal.used (record_of c (meaning h keys values j)) → Wrote c h keys values j a head exit
-      wrote z p q =
+      written z p q =
           let e : number c h keys values j ≡ 0 = sym told_number ∙ z in
           record { reply = w.reply; headed = rw e p; cells = rw e q }
+
+  -- a store of bad shape: refused, and nothing changes
+  pub bad_shape : is_shaped h (length keys) (length values) (length j) ≡ false → Wrote c h keys values j (refused BadShape) h j
+  bad_shape e = unwritten (told_bad e) refl
+
+  -- what was decided and put is what the call writes
+  module _ {a : Reply} {accepted : Bool} {r : Record} {head : Head} {exit : List ℕ} where
+    pub wrote : is_shaped h (length keys) (length values) (length j) ≡ true → Decided c (room_of (length j)) (meaning h keys values j) a
+        → accepted ≡ eqb a.number 0 → (accepted ≡ true → r ≡ record_of c (meaning h keys values j)) → Put h j accepted r head exit
+        → Wrote c h keys values j a head exit
+    wrote shaped d y rec p =
+        let w = told_good shaped d in
+        split accepted
+        (λ e. written w (eqb-true a.number 0 (sym y ∙ e)) (rw e at p.headed) (rw (e, rec e) at p.cells))
+        (λ e.
+        let q : head ≡ h = rw e at p.headed in
+        let x : exit ≡ j = rw e at p.cells in
+        rw (q, x) (unwritten w (sym y ∙ e)))
 
 -- what a store of good shape answers
 pub reply_good : (h : Head) (keys values j : List ℕ) (decided : Store → Reply) (r : Reply) → is_shaped h (length keys) (length values) (length j) ≡ true
@@ -116,15 +135,26 @@ module _ (h : Head) (keys values j : List ℕ) (t : ℕ) (listed contents : List
         values_column = rw (n, ← m) w.values_column;
       }
 
+  -- the same of any reply that was decided, by its number
+  module _ (shaped : is_list_shaped h (length keys) (length values) (length j) (length listed) (length contents) ≡ true) (a : Reply)
+      (d : a ≡ list_decided (length listed) t (meaning h keys values j)) where
+    pub list_filled : (listed' contents' : List ℕ) → eqb a.number 0 ≡ true → Filled (list_of t (meaning h keys values j)) listed contents listed' contents'
+        → ListedBy h keys values j t listed contents a listed' contents'
+    list_filled listed' contents' e f =
+        listed_by shaped a listed' contents' (record { reply = d; keys_column = rw e f.keys_column; values_column = rw e f.values_column })
+
+    pub list_refused : eqb a.number 0 ≡ false → ListedBy h keys values j t listed contents a listed contents
+    list_refused e = listed_by shaped a listed contents (record { reply = d; keys_column = rw e; values_column = rw e })
+
 module _ {s : Store} {t : ℕ} {listed contents : List ℕ} where
   -- a refused list leaves the columns as they were
-  pub list_refused : (x : Refusal) → refused x ≡ list_decided (length listed) t s → ListedOf s t listed contents (refused x) listed contents
-  list_refused x e = record { reply = e; keys_column = after_refused x _ _ listed refl; values_column = after_refused x _ _ contents refl }
+  pub listed_refused : (x : Refusal) → refused x ≡ list_decided (length listed) t s → ListedOf s t listed contents (refused x) listed contents
+  listed_refused x e = record { reply = e; keys_column = after_refused x _ _ listed refl; values_column = after_refused x _ _ contents refl }
 
   -- an accepted one has its rows at their front
-  pub list_filled : (n : ℕ) {listed' contents' : List ℕ} → accepted (Some n) ≡ list_decided (length listed) t s
+  pub listed_filled : (n : ℕ) {listed' contents' : List ℕ} → accepted (Some n) ≡ list_decided (length listed) t s
       → Filled (list_of t s) listed contents listed' contents' → ListedOf s t listed contents (accepted (Some n)) listed' contents'
-  list_filled n e f = record { reply = e; keys_column = f.keys_column; values_column = f.values_column }
+  listed_filled n e f = record { reply = e; keys_column = f.keys_column; values_column = f.values_column }
 
 module _ (t : ℕ) (h : Head) (keys values j : List ℕ) where
   -- a call that gets a refusal's number changes nothing

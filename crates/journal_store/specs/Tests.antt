@@ -7,6 +7,7 @@ use Rattle.rules.specs.declared.Effect.{Effect}
 use Rattle.rules.specs.Calls.{Store, Call, Begin, Update, Abort, Commit, refusal, need, with_room, answer, gives, last_of, next_of, running_of, runs_in, may_write_in, conflict_in, value_of, read_of, list_of, list_answer, checkpoint_refusal, held_in}
 use Rattle.rules.specs.Value.{Value}
 use Rattle.answer.specs.declared.Refusal.{Refusal}
+use Rattle.answer.specs.declared.Refusal.TheVariants.{NoRoom}
 use Rattle.answer.specs.Reply.{Reply, refused, accepted, told, number_of}
 use Rattle.answer.specs.Laws.{refused_some}
 use Rattle.journal_store.specs.CallContracts.{Decided, read_decided, lookup_decided, list_decided}
@@ -43,15 +44,22 @@ module _ {room : ℕ} {s : Store} where
           begin_numbers h = say (Begin t) 7 (rw (le-ltb t s.low a, b, ← m, lt-leb most_running r d, ← g, le-leb numbers_end n h))
 
           module _ (h : n < numbers_end) {used : ℕ} (u : length s.records ≡ used) where
-            pub begin_room : (x : Refusal) → refused x ≡ told (with_room 0 (used + (2 + r)) room) None → Decided (Begin t) room s (refused x)
-            begin_room x i =
+            pub begin_short : (x : Refusal) → refused x ≡ told (with_room 0 (used + (2 + r)) room) None → Decided (Begin t) room s (refused x)
+            begin_short x i =
                 let q : with_room 0 (used + (2 + r)) room ≡ number_of x = sym (ap (λ (a : Reply). a.number) i) in
                 fits (Begin t) (begin_passes s t a b r m d n g h) u (i ∙ rw (← m, q, refused_some x))
 
-            pub begin_begun : accepted None ≡ told (with_room 0 (used + (2 + r)) room) None → Decided (Begin t) room s (accepted (Some n))
-            begin_begun i =
+            pub begin_fits : accepted None ≡ told (with_room 0 (used + (2 + r)) room) None → Decided (Begin t) room s (accepted (Some n))
+            begin_fits i =
                 let q : with_room 0 (used + (2 + r)) room ≡ 0 = sym (ap (λ (a : Reply). a.number) i) in
                 fits (Begin t) (begin_passes s t a b r m d n g h) u (rw (← m, q, g))
+
+            -- the same by what is used and the room
+            pub begin_room : room < used + (2 + r) → Decided (Begin t) room s (told 12 (gives (Begin t) s))
+            begin_room i = begin_short NoRoom (rw (lt-leb (used + (2 + r)) room i))
+
+            pub begin_begun : used + (2 + r) ≤ room → Decided (Begin t) room s (accepted (Some n))
+            begin_begun i = begin_fits (rw (le-leb (used + (2 + r)) room i))
 
   module _ {n : ℕ} where
     module _ (f : runs_in n s ≡ false) where

@@ -2,7 +2,7 @@
 use Rattle.std.specs.Prelude.{refl, None}
 use Rattle.rules.specs.Calls.{Update}
 use Rattle.std.proofs.Common.{rules}
-use Rattle.journal_store.specs.Laws.{told_room, wrote}
+use Rattle.journal_store.specs.Laws.{told_room, written}
 use Rattle.journal_store.specs.LentLaws.{told_by}
 use Rattle.journal_store.proofs.update.update.Goals as goal
 
@@ -15,5 +15,5 @@ put-head-requires c =
 pub returns : goal.returns
 returns c =
     let a = c.args in
-    wrote (told_by a.h a.keys.now a.values.now a.journal.now (λ _. None) (Update a.n a.k a.e) c.new.result c.and_then-answer.result c.new.ensures (search rules))
+    written (told_by a.h a.keys.now a.values.now a.journal.now (λ _. None) (Update a.n a.k a.e) c.new.result c.and_then-answer.result c.new.ensures (search rules))
     (rw c.in-Ok.is refl) c.put-head.ensures.0 (rw c.updated.ensures at c.put-head.ensures.1)
