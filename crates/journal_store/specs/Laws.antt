@@ -64,8 +64,9 @@ module _ {c : Call} {h : Head} {keys values j : List ℕ} where
       told_room z =
           split (is_shaped h (length keys) (length values) (length j))
           (λ e.
-          let q : answer (room_of (length j)) c (meaning h keys values j) ≡ 0 = sym (counted c h keys values j true e) ∙ sym told_number ∙ z in
-          omega (arith, room_left (room_of (length j)) c (meaning h keys values j) q, need_some c (meaning h keys values j), length_records h.journal.used j))
+          let d : Decided c (room_of (length j)) (meaning h keys values j) a =
+          record { reply = w.reply ∙ ap (λ (n : ℕ). told n (gives c (meaning h keys values j))) (counted c h keys values j true e) } in
+          has_room d refl (length_records h.journal.used j) (ap (λ (n : ℕ). eqb n 0) z))
           (λ e. let q : ◌≡◌ {A = ℕ} 1 0 = sym (counted c h keys values j false e) ∙ sym told_number ∙ z in absurd (omega (arith, q)))
 
       -- what it gives
