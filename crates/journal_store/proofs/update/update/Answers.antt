@@ -1,5 +1,5 @@
 -- `journal_store::update::update` meets its contract: what was decided is written. Assumes nothing.
-use Rattle.std.specs.Prelude.{refl, None}
+use Rattle.std.specs.Prelude.{None}
 use Rattle.rules.specs.Calls.{Update}
 use Rattle.std.proofs.Common.{rules}
 use Rattle.journal_store.specs.Laws.{told_room, written}
@@ -10,10 +10,10 @@ pub put-head-requires : goal.put-head-requires
 put-head-requires c =
     let a = c.args in
     told_room (told_by a.h a.keys.now a.values.now a.journal.now (λ _. None) (Update a.n a.k a.e) c.new.result c.and_then-answer.result c.new.ensures (search rules))
-    (rw c.in-Ok.is refl)
+    (search rules)
 
 pub returns : goal.returns
 returns c =
     let a = c.args in
     written (told_by a.h a.keys.now a.values.now a.journal.now (λ _. None) (Update a.n a.k a.e) c.new.result c.and_then-answer.result c.new.ensures (search rules))
-    (rw c.in-Ok.is refl) c.put-head.ensures.0 (rw c.updated.ensures at c.put-head.ensures.1)
+    (search rules) c.put-head.ensures.0 (rw c.updated.ensures at c.put-head.ensures.1)
