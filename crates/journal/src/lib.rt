@@ -1,5 +1,5 @@
 // What the records of a journal say of transactions and times: rules 3.2 and 3.3, read only. Damaged records are records like any
-// other; unknown kinds are passed over. Every pass asks that the used records are there.
+// other; unknown kinds are passed over. Every pass is lent `Records`, whose fact is that the used records are there.
 #![tactic(auto)]
 
 ghost use Rattle.std.specs.Prelude.{◌≡◌};
