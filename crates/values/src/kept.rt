@@ -7,11 +7,11 @@ use rules::{Effect, Record, Value};
 // A column for each number of an update, the oldest update first. One column of structs would take twelve bytes for each update in place of nine, and
 // c/registers.h has the stack that a read and a lookup take.
 #[derive(Drop)]
-pub struct Kept<const N: usize> {
-    pub transactions: [u32; N],
-    pub kinds: [u8; N],
-    pub amounts: [u32; N],
-    pub count: usize,
+pub(crate) struct Kept<const N: usize> {
+    pub(crate) transactions: [u32; N],
+    pub(crate) kinds: [u8; N],
+    pub(crate) amounts: [u32; N],
+    pub(crate) count: usize,
     ghost few: { count ≤ N },
 }
 
@@ -29,7 +29,7 @@ fn kept_step(transaction: u32, kind: u8, amount: u32, n: u32, old: Value) -> Val
 }
 
 impl<const N: usize> Kept<N> {
-    pub fn none() -> Self
+    pub(crate) fn none() -> Self
         ensures { result.count ≡ 0 }
     {
         Kept {
@@ -41,7 +41,7 @@ impl<const N: usize> Kept<N> {
     }
 
     // One more.
-    pub fn push(&mut self, r: Record)
+    pub(crate) fn push(&mut self, r: Record)
         requires { self.old.count < N }
         ensures { Grown r self.old.transactions self.old.kinds self.old.amounts self.old.count self.new.transactions self.new.kinds self.new.amounts self.new.count }
     {
@@ -53,7 +53,7 @@ impl<const N: usize> Kept<N> {
     }
 
     // What those of one transaction make of a value, in their order.
-    pub fn effects(&self, n: u32, old: Value) -> Value
+    pub(crate) fn effects(&self, n: u32, old: Value) -> Value
         ensures { result ≡ kept_effects self.now.transactions self.now.kinds self.now.amounts n self.now.count old }
     {
         let mut v = old;
