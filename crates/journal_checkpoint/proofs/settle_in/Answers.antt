@@ -36,6 +36,6 @@ returns g c =
     (made a.h a.keys.now a.values.now a.journal.now a.t c.new-base.result c.new-records.result b.0 b.1 b.2 r.0 r.1)
     (record {
       count = v.count;
-      fits = rw c.min.ensures at c.if-min-count.false;
+      fits = omega (arith, c.min.ensures, c.if-min-count.false);
       filled = next_copied _ _ _ _ _ _ v _ _ _ _ c.copy.ensures c.copy-2.ensures;
     })
