@@ -18,7 +18,7 @@ FORMS = [
     ('2', 'functions that differ from another in a width, a size or a constant alone',
      r'fn (of_bytes|of_column|of_times|wide8?|counted_from|marked_from|has|has_late|pass|pass_early|keep_few|keep_from|write_any|write|settle_by|settle|read_by|read|value|started|ended|begun|got|done|listed|accepted|report_on|print|run|unchanged)\('),
     ('3', 'loops that count by hand', r'^\s*(let \w+ = )?(while|loop)\b'),
-    ('4', 'conversions and defaults by hand', r'fn (or_zero|by|mark|amount|number|place|accepted|begun|got|done|listed|started|ended|moved_by|moved_of|error_of|wide8?|least|new|empty|names_stores)\('),
+    ('4', 'conversions and defaults by hand', r'fn (or_zero|by|mark|amount|number|place|accepted|begun|got|done|listed|started|ended|moved_by|moved_of|error_of|wide8?|least|new|empty|names_stores)\(|fn new<'),
     ('5', 'clauses that the used records are there', r'requires .*(\* record_size ≤|\b(Records|Inside) )'),
     ('5', 'clauses that a store has its shape', r'requires .*(Shaped h|is_list_shaped h)'),
     ('5', 'clauses that the used versions are there', r'requires .*used ≤ length (keys|times)\.(now|old)'),
