@@ -21,7 +21,7 @@
  *
  *                   begin  assign, add  read  commit  abort  lookup  list  checkpoint  recover
  *   journal store       9            9    19      25      1      19    59          64       13
- *   map store          13           20     6      21     22       3    37          49        -
+ *   map store          13           20     6      21     22       3    37          47        -
  *
  * What comes back. A call that changes the store returns a head: use it from then on in place of the old one. A
  * refused call returns the head that it was given and changes no lent cell. The answer is the number of the

@@ -92,7 +92,30 @@ fn clear(
     marks[from..to].fill(0);
 }
 
-// A checkpoint at t of fewer than N versions, decided in columns of N cells aside.
+// A checkpoint at t, for which two columns and picks are lent. Never within its callers: their columns share the stack with the head that is given back.
+#[inline(never)]
+fn keep_in(
+    keys: &mut [u32],
+    times: &mut [u64],
+    values: &mut [u32],
+    marks: &mut [u8],
+    used: usize,
+    t: u64,
+    listed: &mut [u32],
+    places: &mut [u32],
+    picks: &mut [bool],
+) -> usize
+    requires { Spans used (columns keys.old times.old values.old marks.old) × (used ≤ Version.ROWS) × Spare listed.old places.old used × (used ≤ length picks.old) }
+    ensures { Kept t used (columns keys.old times.old values.old marks.old) (columns keys.new times.new values.new marks.new) result }
+{
+    let stamps = Stamps::new(keys, times, used);
+    pick_kept(stamps, t, listed, places, picks);
+    let kept = move_up(keys, times, values, marks, used, picks);
+    clear(keys, times, values, marks, kept, used);
+    kept
+}
+
+// The same of fewer than N versions, in columns of N cells aside.
 fn keep<const N: usize>(
     keys: &mut [u32],
     times: &mut [u64],
@@ -107,11 +130,17 @@ fn keep<const N: usize>(
     let mut listed = [0u32; N];
     let mut places = [0u32; N];
     let mut picks = [false; N];
-    let stamps = Stamps::new(keys, times, used);
-    pick_kept(stamps, t, &mut listed, &mut places, &mut picks);
-    let kept = move_up(keys, times, values, marks, used, &picks);
-    clear(keys, times, values, marks, kept, used);
-    kept
+    keep_in(
+        keys,
+        times,
+        values,
+        marks,
+        used,
+        t,
+        &mut listed,
+        &mut places,
+        &mut picks,
+    )
 }
 
 // A checkpoint at t: kept versions move up in order, freed rows are zero. Answers how many versions are kept. For few versions small columns aside

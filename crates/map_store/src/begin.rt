@@ -1,22 +1,23 @@
 // Begin: a new transaction with a snapshot from low to last. Refusals 1, 4, 5, 6, 7.
-ghost use Rattle.std.specs.Prelude.{◌≡◌, ◌<◌};
+ghost use Rattle.std.specs.Prelude.{◌≡◌, ℕ, ◌<◌, true, cond, is_ok};
 ghost use Rattle.rules.specs.Limits.{numbers_end};
 ghost use Rattle.rules.specs.Calls.{Begin};
 ghost use Rattle.answer.specs.Reply.{of_begun};
-ghost use Rattle.versions.specs.Versions.{columns};
+ghost use Rattle.slot.specs.Formed.{Formed};
+ghost use Rattle.versions.specs.Versions.{Columns, columns};
+ghost use Rattle.map_store.specs.Shape.{meaning};
 ghost use Rattle.map_store.specs.Heads.{begun_head};
 ghost use Rattle.map_store.specs.CallContracts.{Decided, Answered};
-ghost use Rattle.map_store.specs.Lent.{meant, room_in};
 
-use crate::{MapHead, Store};
+use crate::MapHead;
 use answer::{Outcome, Refusal};
 use slot::Slots;
 
-// What a store of good shape answers.
-fn decide(store: Store<'_>, t: u64) -> Result<u32, Refusal>
-    ensures { Decided (Begin t) (room_in store.entry) (meant store.entry) (of_begun result) }
+// What a store of good shape answers, whatever stands in its columns.
+fn decide(h: MapHead, t: u64) -> Result<u32, Refusal>
+    requires { Formed h.slots }
+    ensures { (room : ℕ) (cs : Columns) → Decided (Begin t) room (meaning h cs) (of_begun result) }
 {
-    let h = store.head;
     if t < h.low {
         return Err(Refusal::TooOld);
     }
@@ -33,11 +34,14 @@ fn decide(store: Store<'_>, t: u64) -> Result<u32, Refusal>
     Ok(h.next)
 }
 
-// The head with the new transaction.
-fn open(h: MapHead, t: u64) -> MapHead
-    requires { h.next < numbers_end }
-    ensures { result ≡ begun_head t h }
+// The head with the new transaction, if the call was accepted.
+fn open(h: MapHead, answer: Result<u32, Refusal>, t: u64) -> MapHead
+    requires { is_ok answer ≡ true → h.next < numbers_end }
+    ensures { result ≡ cond (is_ok answer) (begun_head t h) h }
 {
+    if answer.is_err() {
+        return h;
+    }
     let slots = h.slots;
     MapHead {
         next: h.next + 1,
@@ -46,7 +50,8 @@ fn open(h: MapHead, t: u64) -> MapHead
     }
 }
 
-// Begins a transaction that reads as of t, and answers its number.
+// Begins a transaction that reads as of t, and answers its number. No column is read, so that the shape is tested and no `Store` made: a head that is lent
+// to one, or that two ways out give back, is zeroed and copied once more (docs/DESIGN-PASS.md, Speed).
 pub fn begin(
     h: MapHead,
     keys: &[u32],
@@ -57,10 +62,13 @@ pub fn begin(
 ) -> Outcome<MapHead, u32>
     ensures { Answered (Begin t) h (columns keys.now times.now values.now marks.now) (of_begun result.answer) result.head }
 {
-    let answer = Store::new(&h, keys, times, values, marks).and_then(|store| decide(store, t));
-    let Ok(_) = answer else {
-        return Outcome { head: h, answer };
-    };
-    let head = open(h, t);
+    if !crate::shaped(h, keys.len(), times.len(), values.len(), marks.len()) {
+        return Outcome {
+            head: h,
+            answer: Err(Refusal::BadShape),
+        };
+    }
+    let answer = decide(h, t);
+    let head = open(h, answer, t);
     Outcome { head, answer }
 }

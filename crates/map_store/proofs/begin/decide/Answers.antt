@@ -14,10 +14,10 @@ counted : (h : Slots) (r : ℕ) → Formed h → r ≡ ones h.occupied → r ≡
 counted h r w e = e ∙ sym (occupied_places h w.byte)
 
 pub returns-then-running-ge-SLOTS : goal.returns-then-running-ge-SLOTS
-returns-then-running-ge-SLOTS c = begin_many c.if-t-h.false c.if-h-t.false (counted c.args.store.head.now.slots _ c.args.store.formed c.running.ensures) c.if-running-ge-SLOTS.true
+returns-then-running-ge-SLOTS c room cs = begin_many c.if-t-h.false c.if-h-t.false (counted c.args.h.slots _ c.requires c.running.ensures) c.if-running-ge-SLOTS.true
 
 pub returns-then-h-ge-NO_NUMBER : goal.returns-then-h-ge-NO_NUMBER
-returns-then-h-ge-NO_NUMBER c = begin_numbers c.if-t-h.false c.if-h-t.false (counted c.args.store.head.now.slots _ c.args.store.formed c.running.ensures) c.if-running-ge-SLOTS.false c.if-h-ge-NO_NUMBER.true
+returns-then-h-ge-NO_NUMBER c room cs = begin_numbers c.if-t-h.false c.if-h-t.false (counted c.args.h.slots _ c.requires c.running.ensures) c.if-running-ge-SLOTS.false c.if-h-ge-NO_NUMBER.true
 
 pub returns : goal.returns
-returns c = begin_begun c.if-t-h.false c.if-h-t.false (counted c.args.store.head.now.slots _ c.args.store.formed c.running.ensures) c.if-running-ge-SLOTS.false c.if-h-ge-NO_NUMBER.false
+returns c room cs = begin_begun c.if-t-h.false c.if-h-t.false (counted c.args.h.slots _ c.requires c.running.ensures) c.if-running-ge-SLOTS.false c.if-h-ge-NO_NUMBER.false

@@ -1,4 +1,4 @@
--- `map_checkpoint::keep::keep` meets its contract: the rows that are picked are those that stay, they have moved up, and the rest is zero.
+-- `map_checkpoint::keep::keep_in` meets its contract: the rows that are picked are those that stay, they have moved up, and the rest is zero.
 use mathlib.Core.Path.{◌≡◌, refl}
 use mathlib.Core.Bool.{Bool, false}
 use mathlib.Core.List.{List}
@@ -10,7 +10,7 @@ use Rattle.versions.specs.Versions.{Columns, columns, version_at, versions_of, i
 use Rattle.versions.specs.Columns.{Spans, picked, over, Moved, zeroed, cleared, thinned_column, Kept}
 use Rattle.versions.specs.Laws.{length_versions, lent_long, each_same, length_kept}
 use Rattle.map_checkpoint.proofs.Cells.{over_cleared}
-use Rattle.map_checkpoint.proofs.keep.keep.Goals as goal
+use Rattle.map_checkpoint.proofs.keep.keep_in.Goals as goal
 
 -- where each pick says whether its row stays, the picked versions are those that are kept
 picked_thin : (picks : List Bool) (cs : Columns) (T : ℕ) (whole : List Version) (n : ℕ)
@@ -39,7 +39,7 @@ module _ (picks : List Bool) (cs : Columns) (T n : ℕ) (h : (i : ℕ) → i < n
       }
 
 pub clear-requires : goal.clear-requires
-clear-requires g c =
+clear-requires c =
     let a = c.args in
     let cs = columns a.keys.now a.times.now a.values.now a.marks.now in
     let w = c.new-stamps.ensures in
@@ -55,7 +55,7 @@ clear-requires g c =
     )
 
 pub returns : goal.returns
-returns g c =
+returns c =
     let a = c.args in
     let cs = columns a.keys.now a.times.now a.values.now a.marks.now in
     let w = c.new-stamps.ensures in
