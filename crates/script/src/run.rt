@@ -1,5 +1,5 @@
 // A run of the script on a store.
-ghost use Rattle.std.specs.Prelude.{◌≡◌, ℕ};
+ghost use Rattle.std.specs.Prelude.{◌≡◌, ℕ, ⊤};
 ghost use Rattle.answer.specs.declared.shown.Answer.{Answer};
 ghost use Rattle.script.specs.declared.line.Call.{Call};
 ghost use Rattle.script.specs.Run.{fresh, goes, read, judged_by};
@@ -18,11 +18,11 @@ pub const SCRIPT: usize = 32768;
 
 // A store that a trial makes calls of.
 pub trait Store {
-    // What a call may make of a store, and answer.
-    ghost turns: { Self → Call → Self → Answer → Type 0 };
+    // What a call may make of a store, and answer: anything, where a store does not say it.
+    ghost turns: { Self → Call → Self → Answer → Type 0 } = { λ _ _ _ _. ⊤ };
 
-    // What may be the sum of one.
-    ghost sums: { Self → ℕ → Type 0 };
+    // What may be the sum of one: any number, where a store does not say it.
+    ghost sums: { Self → ℕ → Type 0 } = { λ _ _. ⊤ };
 
     // What a line asks is done, and answered.
     fn turn(&mut self, call: Call) -> Answer
@@ -108,4 +108,45 @@ pub fn follow<W: Write, S: Store>(out: &mut W, script: &[u8], word: Word, store:
     }
     run.ended(out);
     run
+}
+
+#[cfg(test)]
+mod tests {
+    use super::*;
+    use std::io::Cursor;
+
+    // A store that says neither its turns nor its sums. It answers three calls with the first number of each, and refuses those after them. Of the
+    // refused calls the first changes its sum, and no later one does.
+    #[derive(Drop)]
+    struct Three {
+        calls: u64,
+    }
+
+    impl Store for Three {
+        fn turn(&mut self, call: Call) -> Answer {
+            self.calls = self.calls.wrapping_add(1);
+            if self.calls > 3 {
+                return Answer::alone(Call::NO_CALL);
+            }
+            Answer::beside(0, call.a)
+        }
+
+        fn sum(&self) -> u64 {
+            self.calls.min(4)
+        }
+    }
+
+    #[test]
+    fn follows_a_store_that_says_nothing(rt: HostRuntime) {
+        let script =
+            b"both\nbegin 5 = 0 5\njournal\nbegin 6\nmap\nlast: abort 7 = 0 7\nread 8 = 0 9\nread 9 = 99\nkept: read 9 = 99\n";
+        let wanted =
+            b"map: last: abort 7 = 0 7 ok\nmap: read 8 = 0 9 DIFFERS, came 0 8\nmap: read 9 = 99 CHANGED CELLS\nmap: kept: read 9 = 99 ok\nmap: answers as wanted, and others: 3 2\n\0";
+        let mut out = Cursor::new([0u8; 162]);
+        let mut store = Three { calls: 0 };
+        let run = follow(&mut out, script, Word::Map, &mut store);
+        assert_eq!(rt; store.calls, 5);
+        assert_eq!(rt; run.play.at, script.len());
+        assert_eq!(rt; out.into_inner().as_slice(), wanted.as_slice());
+    }
 }
