@@ -1,10 +1,10 @@
--- A word tells again which letters it was told by. Assumes nothing.
-use Rattle.std.specs.Prelude.{◌≡◌, refl, ℕ, cond, ◌==◌}
-use Rattle.std.proofs.Common.{sym, ap, ◌∙◌, eqb-true}
-use Rattle.rules.specs.Bools.{split}
+-- A word tells again which letters it was told by, and is told from any other. Assumes nothing.
+use Rattle.std.specs.Prelude.{◌≡◌, refl, ℕ, true, cond, ◌==◌}
+use Rattle.std.proofs.Common.{sym, ap, ◌∙◌, eq-eqb, eqb-true}
+use Rattle.rules.specs.Bools.{split, not_both}
 use Rattle.script.specs.declared.line.Word.{Word}
 use Rattle.script.specs.declared.line.Word.TheVariants as words
-use Rattle.script.specs.Line.{spelling, word_of}
+use Rattle.script.specs.Line.{spelling, word_of, is_word}
 
 -- the number of a word's last three letters
 abbrev pub letters_of : Word → ℕ
@@ -69,3 +69,34 @@ word_letters w =
 -- unlike letters are told as unlike words
 pub word_only : (v w : ℕ) → word_of v ≡ word_of w → v ≡ w
 word_only v w e = sym (word_letters v) ∙ ap letters_of e ∙ word_letters w
+
+-- a word is itself, and no other
+pub is_itself : (w : Word) → is_word w w ≡ true
+is_itself (words.Other n) = eq-eqb n n refl
+is_itself _ = refl
+
+pub is_no_other : (v w : Word) → is_word v w ≡ true → v ≡ w
+is_no_other words.Missing words.Missing e = refl
+is_no_other words.Begin words.Begin e = refl
+is_no_other words.Assign words.Assign e = refl
+is_no_other words.Add words.Add e = refl
+is_no_other words.Abort words.Abort e = refl
+is_no_other words.Commit words.Commit e = refl
+is_no_other words.Read words.Read e = refl
+is_no_other words.Lookup words.Lookup e = refl
+is_no_other words.List words.List e = refl
+is_no_other words.Checkpoint words.Checkpoint e = refl
+is_no_other words.Recover words.Recover e = refl
+is_no_other words.Store words.Store e = refl
+is_no_other words.Fill words.Fill e = refl
+is_no_other words.Each words.Each e = refl
+is_no_other words.Again words.Again e = refl
+is_no_other words.When words.When e = refl
+is_no_other words.Both words.Both e = refl
+is_no_other words.Journal words.Journal e = refl
+is_no_other words.Map words.Map e = refl
+is_no_other words.Single words.Single e = refl
+is_no_other words.Narrow words.Narrow e = refl
+is_no_other words.Long words.Long e = refl
+is_no_other (words.Other m) (words.Other n) e = ap words.Other (eqb-true m n e)
+is_no_other _ _ e = not_both _ e refl
